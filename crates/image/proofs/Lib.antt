@@ -1,0 +1,4 @@
+pub mod Questions
+pub mod Judgement
+pub mod Accepted
+pub mod GivenWords

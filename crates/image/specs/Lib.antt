@@ -1,0 +1,4 @@
+pub mod Questions
+pub mod Refusals
+pub mod Image
+pub mod Accepted

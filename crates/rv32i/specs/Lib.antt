@@ -1,0 +1,4 @@
+pub mod If
+pub mod Refusals
+pub mod Fields
+pub mod Decode
