@@ -24,10 +24,12 @@ module _ (w : ℕ) where
   then : (k c : ℕ) (bs ds : List ℕ) → c ≡ digit w k → bs ≡ ds → encode c ++ bs ≡ digit w k ∷ ds
   then k c bs ds h e = ap (λ (l : List ℕ). l ++ bs) (one-byte k c h) ∙ ap (λ (l : List ℕ). digit w k ∷ l) e
 
-  pub spells : (a b c d e g h i : ℕ)
-      → a ≡ digit w 7 → b ≡ digit w 6 → c ≡ digit w 5 → d ≡ digit w 4 → e ≡ digit w 3 → g ≡ digit w 2 → h ≡ digit w 1 → i ≡ digit w 0
-      → codes "0x" ++ (encode a ++ (encode b ++ (encode c ++ (encode d ++ (encode e ++ (encode g ++ (encode h ++ encode i))))))) ≡ hex w
+  pub spells : (d7 d6 d5 d4 d3 d2 d1 d0 : ℕ)
+      → d7 ≡ digit w 7 → d6 ≡ digit w 6 → d5 ≡ digit w 5 → d4 ≡ digit w 4
+      → d3 ≡ digit w 3 → d2 ≡ digit w 2 → d1 ≡ digit w 1 → d0 ≡ digit w 0
+      → codes "0x" ++ (encode d7 ++ (encode d6 ++ (encode d5 ++ (encode d4 ++ (encode d3 ++ (encode d2 ++ (encode d1 ++ encode d0))))))) ≡ hex w
   unfolding hex
-  spells a b c d e g h i a7 b6 c5 d4 e3 g2 h1 i0 =
+  spells d7 d6 d5 d4 d3 d2 d1 d0 h7 h6 h5 h4 h3 h2 h1 h0 =
       ap (λ (l : List ℕ). codes "0x" ++ l)
-      (then 7 a _ _ a7 (then 6 b _ _ b6 (then 5 c _ _ c5 (then 4 d _ _ d4 (then 3 e _ _ e3 (then 2 g _ _ g2 (then 1 h _ _ h1 (one-byte 0 i i0))))))))
+      (then 7 d7 _ _ h7 (then 6 d6 _ _ h6 (then 5 d5 _ _ h5 (then 4 d4 _ _ h4
+      (then 3 d3 _ _ h3 (then 2 d2 _ _ h2 (then 1 d1 _ _ h1 (one-byte 0 d0 h0))))))))

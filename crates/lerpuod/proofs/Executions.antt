@@ -26,8 +26,12 @@ over bs ws log n h k e = sym (
     ∙ ap (load-refusal bs 16384) (length-take-le 16384 log (omega arith))
     ) ∙ e
 
+-- what a list of n words holds where others were put in its place
+replaced : (n : ℕ) (ws old : List ℕ) → length ws ≡ n → take n (ws ++ drop (length ws) old) ≡ ws
+replaced n ws old h = ap (λ (i : ℕ). take i (ws ++ drop (length ws) old)) (sym h) ∙ take-append-seam ws (drop (length ws) old)
+
 -- the outputs that a run sent are the first of the log that it leaves
-pub sent : (bs log log′ : List ℕ) (c : Core) → c ≡ run-end bs .core → length log′ ≡ 16384
+sent : (bs log log′ : List ℕ) (c : Core) → c ≡ run-end bs .core → length log′ ≡ 16384
     → take 16384 log′ ≡ run-outputs bs ++ drop (run-end bs .core .sent) log → take (c .sent) log′ ≡ run-outputs bs
 sent bs log log′ c e h o =
     let rest = drop (run-end bs .core .sent) log in
@@ -36,6 +40,9 @@ sent bs log log′ c e h o =
     ∙ ap (λ (n : ℕ). take n (run-outputs bs ++ rest)) many
     ∙ take-append-seam (run-outputs bs) rest
 
--- what a list of n words holds where others were put in its place
-pub replaced : (n : ℕ) (ws old : List ℕ) → length ws ≡ n → take n (ws ++ drop (length ws) old) ≡ ws
-replaced n ws old h = ap (λ (i : ℕ). take i (ws ++ drop (length ws) old)) (sym h) ∙ take-append-seam ws (drop (length ws) old)
+-- and so they are what is left of it where it is cut there
+pub outputs-left : (bs log log′ old out : List ℕ) (n : ℕ) (c : Core) → n ≡ 16384 → length log′ ≡ 16384 → c ≡ run-end bs .core
+    → take 16384 log′ ≡ run-outputs bs ++ drop (run-end bs .core .sent) log
+    → out ≡ take (c .sent) (take n (log′ ++ drop (length log′) old)) → out ≡ run-outputs bs
+outputs-left bs log log′ old out n c e h k o cut =
+    cut ∙ ap (take (c .sent)) (replaced n log′ old (h ∙ sym e)) ∙ sent bs log log′ c k h o

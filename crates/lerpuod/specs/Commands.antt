@@ -23,7 +23,7 @@ Asks ts Example = ts ≡ []
 Asks ts (Uninterrupted image) = ts ≡ codes "uninterrupted" ∷ string-bytes image ∷ []
 Asks ts Help = ts ≡ codes "help" ∷ []
 
--- one of them is the first that is too much
+-- the first of them is the one too many
 abbrev pub Extra-first : List (List ℕ) → Misuse → Type 0
 Extra-first ts (Unknown name) = ⊥
 Extra-first ts NoImage = ⊥

@@ -17,6 +17,6 @@ is refused one line tells the refusal's number and its reason.
 ";
 
 /// Prints the commands, and what the program prints for them.
-pub fn print(rt: &LibcRuntime) -> io::Result<()> {
+pub fn print(rt: &impl Print) -> io::Result<()> {
     rt.print(TEXT)
 }

@@ -14,15 +14,15 @@ pub impl fmt::Display for Hex as HexDisplay {
     ghost shown = { λ w. Some (hex (w .0)) };
 
     fn fmt<W: fmt::Write>(&self, f: &mut fmt::Formatter<W>) -> fmt::Result {
-        let a = digit(self.0, 7);
-        let b = digit(self.0, 6);
-        let c = digit(self.0, 5);
-        let d = digit(self.0, 4);
-        let e = digit(self.0, 3);
-        let g = digit(self.0, 2);
-        let h = digit(self.0, 1);
-        let i = digit(self.0, 0);
-        write!(f, "0x{a}{b}{c}{d}{e}{g}{h}{i}")
+        let d7 = digit(self.0, 7);
+        let d6 = digit(self.0, 6);
+        let d5 = digit(self.0, 5);
+        let d4 = digit(self.0, 4);
+        let d3 = digit(self.0, 3);
+        let d2 = digit(self.0, 2);
+        let d1 = digit(self.0, 1);
+        let d0 = digit(self.0, 0);
+        write!(f, "0x{d7}{d6}{d5}{d4}{d3}{d2}{d1}{d0}")
     }
 }
 

@@ -77,11 +77,11 @@ mod tests {
         ),
         (
             Refusal::Image(ImageRefusal::Header(1)),
-            "load: refused 5 1: the text size is not from 1 word to the memory size",
+            "load: refused 5 1: the text size is 0 or above the memory size",
         ),
         (
             Refusal::Image(ImageRefusal::Header(2)),
-            "load: refused 5 2: the memory words given are not from the text size to the memory size",
+            "load: refused 5 2: the memory words given are fewer than the text or more than the memory",
         ),
         (
             Refusal::Image(ImageRefusal::Header(3)),
@@ -93,11 +93,11 @@ mod tests {
         ),
         (
             Refusal::Image(ImageRefusal::Header(5)),
-            "load: refused 5 5: the most outputs are not 0 to 16384",
+            "load: refused 5 5: the most outputs are above 16384",
         ),
         (
             Refusal::Image(ImageRefusal::Header(6)),
-            "load: refused 5 6: the most instructions are not at least 1",
+            "load: refused 5 6: the most instructions are 0",
         ),
         (
             Refusal::Image(ImageRefusal::Header(7)),

@@ -53,16 +53,16 @@ pub impl From<machine::Refusal> for Refused as RefusedFromMachine {
     }
 }
 
-// What a header word is not, by its number.
+// The rule that a bad header word breaks, by the word's number.
 fn header_reason(word: u32) -> &'static str {
     match word {
         0 => "the memory size is not 1 to 16384 words",
-        1 => "the text size is not from 1 word to the memory size",
-        2 => "the memory words given are not from the text size to the memory size",
+        1 => "the text size is 0 or above the memory size",
+        2 => "the memory words given are fewer than the text or more than the memory",
         3 => "the entry is not a multiple of 4 inside the text",
         4 => "the watchdog period is not 1 to 65535 instructions",
-        5 => "the most outputs are not 0 to 16384",
-        6 => "the most instructions are not at least 1",
+        5 => "the most outputs are above 16384",
+        6 => "the most instructions are 0",
         _ => "a header word breaks its rule",
     }
 }

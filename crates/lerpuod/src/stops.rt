@@ -13,7 +13,7 @@ pub fn meaning(stop: Stop) -> &'static str {
         Stop::DataMisaligned => "a data address is not a multiple of the access's width",
         Stop::OutOfRange => "a data address is at or above the end of the memory",
         Stop::StoreToText => "a store goes into the text",
-        Stop::OutputsFull => "an output comes after the most outputs",
+        Stop::OutputsFull => "an output comes when the most outputs are already sent",
     }
 }
 
@@ -51,7 +51,7 @@ mod tests {
         (
             Stop::OutputsFull,
             10,
-            "an output comes after the most outputs",
+            "an output comes when the most outputs are already sent",
         ),
     ];
 

@@ -12,7 +12,7 @@ pub enum Source {
 }
 
 /// Tells which image it is.
-pub fn tell_source(rt: &LibcRuntime, source: &Source) -> io::Result<()> {
+pub fn tell_source(rt: &impl Print, source: &Source) -> io::Result<()> {
     match source {
         Source::Example => rt.println(
             "# image: the built-in example, which adds 1 to memory word 8 and puts the sum out",
@@ -22,7 +22,7 @@ pub fn tell_source(rt: &LibcRuntime, source: &Source) -> io::Result<()> {
 }
 
 /// Tells an image's numbers.
-pub fn tell_numbers(rt: &LibcRuntime, header: Header) -> io::Result<()> {
+pub fn tell_numbers(rt: &impl Print, header: Header) -> io::Result<()> {
     let Header {
         words,
         text,
@@ -43,7 +43,7 @@ pub fn tell_numbers(rt: &LibcRuntime, header: Header) -> io::Result<()> {
 }
 
 /// Tells by which stop a run ended.
-pub fn tell_stop(rt: &LibcRuntime, stop: Stop) -> io::Result<()> {
+pub fn tell_stop(rt: &impl Print, stop: Stop) -> io::Result<()> {
     let number = stop.number();
     let meaning = meaning(stop);
     println!(rt, "# it ended by stop {number}: {meaning}")

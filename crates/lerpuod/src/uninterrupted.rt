@@ -35,7 +35,7 @@ pub fn show(rt: &LibcRuntime, source: &Source, bytes: &[u8]) -> Result<(), Fault
     }
 }
 
-fn show_run(rt: &LibcRuntime, run: &Run) -> io::Result<()> {
+fn show_run(rt: &impl Print, run: &Run) -> io::Result<()> {
     let stop = run.end.stop;
     let instructions = run.end.core.ran;
     let outputs = run.end.core.sent;
@@ -53,7 +53,7 @@ fn show_run(rt: &LibcRuntime, run: &Run) -> io::Result<()> {
     })
 }
 
-fn print_outputs(rt: &LibcRuntime, outputs: &[u32]) -> io::Result<()> {
+fn print_outputs(rt: &impl Print, outputs: &[u32]) -> io::Result<()> {
     for (number, word) in outputs.iter().enumerate() {
         rt.println(Line::Output {
             number,
@@ -63,7 +63,7 @@ fn print_outputs(rt: &LibcRuntime, outputs: &[u32]) -> io::Result<()> {
     Ok(())
 }
 
-fn print_registers(rt: &LibcRuntime, hart: &Hart) -> io::Result<()> {
+fn print_registers(rt: &impl Print, hart: &Hart) -> io::Result<()> {
     for number in 0..=PC {
         rt.println(Line::Register {
             number,

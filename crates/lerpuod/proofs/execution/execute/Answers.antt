@@ -1,10 +1,10 @@
-use borrow.Author.Needs.{needs}
-use mathlib.Core.Path.{_≡_, sym, ap, _∙_}
+use mathlib.Core.Path.{_≡_, _∙_}
+use Prim.Native.Nat.{ℕ}
 use lib.ListN.{length, take}
 use Rattle.std.specs.Of.Vec.{vec-items, vec-len}
 use Rattle.std.proofs.shelf.Results.{made-from-err}
 use Rattle.machine.proofs.Loading.{no-image}
-use Rattle.lerpuod.proofs.Executions.{over, sent, replaced}
+use Rattle.lerpuod.proofs.Executions.{over, outputs-left}
 use Rattle.lerpuod.proofs.execution.execute.Needs as need
 
 pub returns-in-Err : need.returns-in-Err
@@ -20,9 +20,9 @@ returns-in-Ok-execute-on-words c =
     let log = c .as-mut-slice-2 .result .now in
     let log′ = c .execute-on-words .last .log in
     let done = c .in-Ok-execute-on-words .ensures tt .execute in
+    let room : vec-len (c .in-Continue-outputs .outputs) ≡ 16384 = c .in-Continue-outputs .ensures tt .made .1 in
     let many : length ws ≡ 16384 = c .as-mut-slice .ensures .len ∙ c .in-Continue-memory .ensures tt .made .1 in
-    let many-log : length log ≡ 16384 = c .as-mut-slice-2 .ensures .len ∙ c .in-Continue-outputs .ensures tt .made .1 in
-    let outputs-len = c .in-Continue-outputs .ensures tt .made .1 in
+    let many-log : length log ≡ 16384 = c .as-mut-slice-2 .ensures .len ∙ room in
     let kept : length log′ ≡ 16384 = c .execute-on-words .kept .log ∙ many-log in (
       over bs ws log _ many many-log (done .accepted),
       record {
@@ -30,9 +30,8 @@ returns-in-Ok-execute-on-words c =
         core-is = done .core;
         stop-is = done .stop;
         outputs-are =
-            c .truncate .ensures .items
-            ∙ ap (take (c .in-Ok-execute-on-words .end .core .sent)) (replaced _ log′ (c .in-Continue-outputs .outputs .items) (kept ∙ sym outputs-len))
-            ∙ sent bs _ log′ _ (done .core) kept (done .outputs);
+            outputs-left bs (take 16384 log) log′ (vec-items (c .in-Continue-outputs .outputs)) (vec-items (c .truncate .last .self))
+            (vec-len (c .in-Continue-outputs .outputs)) (c .in-Ok-execute-on-words .end .core) room kept (done .core) (done .outputs) (c .truncate .ensures .items);
       },
     )
 
