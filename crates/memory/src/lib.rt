@@ -49,8 +49,9 @@ pub trait Memory {
     fn look(&self, index: usize) -> Result<u32, Refusal>
         ensures { λ r. ⌜ Looked (words (now (self .entry))) index r ⌝ };
 
-    /// Makes the word at an index equal `word`, and changes no other.
+    /// Makes the word at an index equal `word`, and changes no other. A refusal changes nothing at all.
     fn put(&mut self, index: usize, word: u32) -> Result<(), Refusal>
         ensures put { λ r. ⌜ Put (words (now (self .entry))) index word (words (now (self .exit))) r ⌝ }
+        ensures same { λ _. ⌜ (length (words (now (self .entry))) ≤ index → now (self .exit) ≡ now (self .entry)) ⌝ }
         ensures home { λ r. ⌜ fixed (now (self .exit)) ≡ fixed (now (self .entry)) ⌝ };
 }

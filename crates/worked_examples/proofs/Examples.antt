@@ -13,6 +13,7 @@ use Rattle.machine.specs.Processor.{step, after}
 use Rattle.machine.specs.Rv32i.{rv32i}
 use Rattle.machine.specs.Run.{run-end}
 use Rattle.worked_examples.specs.Examples.{At, Worked-examples}
+use Rattle.worked_examples.proofs.Detectors.{read-write, write-read-write, byte-read-write}
 
 pub worked-examples : Worked-examples
 unfolding put byte names pick merged header given-words between addresses header-questions length-question size-question refusal step after rv32i run-end
@@ -49,4 +50,7 @@ worked-examples = record {
   image-pc = refl;
   image-x2 = refl;
   image-x3 = refl;
+  read-write = read-write;
+  write-read-write = write-read-write;
+  byte-read-write = byte-read-write;
 }

@@ -1,1 +1,2 @@
+pub mod Detectors
 pub mod Examples

@@ -1,8 +1,9 @@
 -- Worked examples of the definitions, in one theorem.
-use Prim.Native.Nat.{ℕ, _+_, _-_, _*_, _/_, _<_}
+use Prim.Native.Nat.{ℕ, _+_, _-_, _*_, _/_, _<_, _≤_}
 use mathlib.Core.Path.{_≡_}
 use mathlib.Core.List.{List, [], _∷_}
 use lib.ListN.{length}
+use Rattle.std.specs.declared.result.Result.{Result}
 use Rattle.std.specs.declared.result.Result.the-variants.{Ok, Err}
 use Rattle.std.specs.declared.option.Option.the-variants.{None}
 use Rattle.memory.specs.Bytes.{word-at}
@@ -20,6 +21,11 @@ use Rattle.hart.specs.declared.action.Action.the-variants as action
 use Rattle.hart.specs.declared.action.Stop.the-variants as stops
 use Rattle.hart.specs.declared.action.Limits.{Limits}
 use Rattle.image.specs.Image.{refusal}
+use Rattle.section.specs.declared.Refusal.{Refusal}
+use Rattle.section.specs.Refusals.{Refused}
+use Rattle.section.specs.View.{View, fresh}
+use Rattle.section.specs.Calls.{Read, Write}
+use Rattle.section.specs.Detecting.{Detected-read, Detected-write}
 use Rattle.machine.specs.Processor.{stop, State, doing, step}
 use Rattle.machine.specs.Rv32i.{rv32i}
 use Rattle.machine.specs.Run.{run-end, run-count, run-stop, run-outputs, run-words}
@@ -46,6 +52,13 @@ example =
     0x37 ∷ 0x01 ∷ 0x00 ∷ 0x80 ∷
     0x23 ∷ 0x20 ∷ 0x31 ∷ 0x00 ∷
     0x73 ∷ 0x00 ∷ 0x10 ∷ 0x00 ∷ []
+
+-- a detector's read and write: the meaning of the call, and what its sets decide; it holds no pair
+abbrev pub Detector-read : List ℕ → View → ℕ → Result ℕ Refusal → List ℕ → View → Type 0
+Detector-read ws v i r ws′ v′ = Read ws v i r ws′ v′ × Detected-read ws v i r v′
+
+abbrev pub Detector-write : List ℕ → View → ℕ → ℕ → ℕ → Result (Unit {0}) Refusal → List ℕ → View → Type 0
+Detector-write ws v i w lanes r ws′ v′ = Write 0 ws v i w lanes r ws′ v′ × Detected-write ws v i lanes r v′
 
 pub record Worked-examples : Type 0 where
   -- 0x02002183 is LW x3, 32(x0)
@@ -77,3 +90,17 @@ pub record Worked-examples : Type 0 where
   pub image-pc : run-end example .core .hart .pc ≡ 20
   pub image-x2 : reg (run-end example .core .hart .x) 2 ≡ 0x80000000
   pub image-x3 : reg (run-end example .core .hart .x) 3 ≡ 1
+  -- a detector just made, over more than five words: read 5, then a write of 5 is refused 21
+  pub read-write : (ws ws₁ ws₂ : List ℕ) (v₁ v₂ : View) (r₁ : Result ℕ Refusal) (w lanes : ℕ) (r₂ : Result (Unit {0}) Refusal)
+      → 5 < length ws → 0 < lanes → lanes ≤ 15
+      → Detector-read ws fresh 5 r₁ ws₁ v₁ → Detector-write ws₁ v₁ 5 w lanes r₂ ws₂ v₂ → Refused 21 r₂
+  -- a full write of 5, a read of 5, then a write of 5 is accepted
+  pub write-read-write : (ws ws₁ ws₂ ws₃ : List ℕ) (v₁ v₂ v₃ : View) (w₁ w₃ lanes : ℕ)
+      (r₁ : Result (Unit {0}) Refusal) (r₂ : Result ℕ Refusal) (r₃ : Result (Unit {0}) Refusal)
+      → 5 < length ws → 0 < lanes → lanes ≤ 15
+      → Detector-write ws fresh 5 w₁ 15 r₁ ws₁ v₁ → Detector-read ws₁ v₁ 5 r₂ ws₂ v₂ → Detector-write ws₂ v₂ 5 w₃ lanes r₃ ws₃ v₃ → r₃ ≡ Ok tt
+  -- a write of 5 with lanes 1, a read of 5, then a write of 5 is refused 21
+  pub byte-read-write : (ws ws₁ ws₂ ws₃ : List ℕ) (v₁ v₂ v₃ : View) (w₁ w₃ lanes : ℕ)
+      (r₁ : Result (Unit {0}) Refusal) (r₂ : Result ℕ Refusal) (r₃ : Result (Unit {0}) Refusal)
+      → 5 < length ws → 0 < lanes → lanes ≤ 15
+      → Detector-write ws fresh 5 w₁ 1 r₁ ws₁ v₁ → Detector-read ws₁ v₁ 5 r₂ ws₂ v₂ → Detector-write ws₂ v₂ 5 w₃ lanes r₃ ws₃ v₃ → Refused 21 r₃

@@ -43,5 +43,6 @@ returns c =
         (λ h. (refl, packed-put bs (c .args .index) (c .args .word) l f)),
         λ h. absurd (omega (arith, h, c .size .ensures .size, c .if-index-size .left)),
       );
+      same = λ h. absurd (omega (arith, h, c .size .ensures .size, c .if-index-size .left));
       home = ap (λ (z : List ℕ). name (c .args .self .now .bytes) ∷ z) (beside-put bs (c .args .index) (c .args .word) l f);
     }

@@ -23,5 +23,6 @@ returns c =
         (λ h. (refl, take-set-lt 16384 _ _ _ lt)),
         λ h. absurd (omega (arith, c .size .ensures .size)),
       );
+      same = λ h. absurd (omega (arith, c .size .ensures .size));
       home = ap (λ (z : List ℕ). name (c .args .self .now .cells) ∷ z) (drop-set-lt 16384 (c .args .self .now .cells .now) (c .args .index) (c .args .word) lt);
     }
