@@ -1,5 +1,7 @@
 // The law over runs: an intermittent run agrees with the uninterrupted run of its image. The definitions are in specs/; the
 // functions here are the numbers that a user needs, and their contracts name what is proved of every run.
+#![tactic(auto)]
+
 ghost use Rattle.std.specs.Prelude.{◌≡◌, ◌+◌, ◌*◌};
 ghost use Rattle.agreement.specs.Store.{store_size};
 ghost use Rattle.agreement.specs.Agreement.{Agreement};

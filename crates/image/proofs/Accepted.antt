@@ -1,7 +1,7 @@
 -- An image that is not refused keeps every rule.
 use Rattle.std.proofs.Common.{◌≡◌, ℕ, List, None}
 use Rattle.std.proofs.lemmas.Bool.{and_parts, leb-true, ltb-true, eqb-true}
-use Rattle.image.specs.Image.{between, addresses, header, header_questions, length_question, size_question, image_questions, refusal}
+use Rattle.image.specs.Image.{between, addresses, header_questions, length_question, size_question, image_questions, refusal}
 use Rattle.image.specs.Accepted.{Accepted}
 use Rattle.image.proofs.Questions.{all_yes}
 

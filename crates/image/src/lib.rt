@@ -1,4 +1,6 @@
 // Images: rows of bytes that give a machine's numbers and its first memory words.
+#![tactic(auto)]
+
 pub mod header;
 mod words;
 

@@ -1,12 +1,12 @@
 -- The set of the marked indexes, and one mark more.
-use Rattle.std.proofs.Common.{◌≡◌, ℕ, zero, suc, ◌+◌, ◌-◌, ◌*◌, ◌/◌, ◌%◌, ◌^◌, ◌<◌, ◌≤◌, Bool, true, false, ◌&&◌, eqb, ltb, ◌≢◌, ◌⊎◌, List, length, get_or, set, replicate, sym, refl, ap, ◌∙◌, subst, inl, inr, ⊎_elim, arith, pow_pos, pow-add}
+use Rattle.std.proofs.Common.{◌≡◌, ℕ, suc, ◌+◌, ◌-◌, ◌*◌, ◌/◌, ◌%◌, ◌^◌, ◌<◌, ◌≤◌, Bool, true, false, ◌&&◌, eqb, ltb, ◌≢◌, List, length, get_or, set, replicate, sym, refl, ap, ◌∙◌, ⊎_elim, arith, pow_pos, pow-add}
 use lib.Bits.{bit_and, bit_or, or_shr, or_mod, and_mask, shifted_even, or_zero_r}
 use lib.Pow.{shl-shr, pow-lt}
 use native.Mathlib.Nat.{div_self, div-eq_of_lt, zero-div}
 use Rattle.std.proofs.lemmas.Nat.{one_shl, mod_below}
-use Rattle.std.proofs.lemmas.Bool.{eq-eqb, ne_eqb, cases_eq, cases_lt, cases_order, lt-ltb, or_left}
+use Rattle.std.proofs.lemmas.Bool.{eq-eqb, ne_eqb, cases_eq, cases_lt, lt-ltb, or_left}
 use Rattle.std.proofs.lemmas.List.{get_or-set_same, get_or-set_other, get_or-replicate, get_or_past, length-replicate}
-use Rattle.index_sets.specs.Sets.{IndexTest, joined, none}
+use Rattle.index_sets.specs.Sets.{joined, none}
 use Rattle.index_sets.specs.Sets.{marked}
 use Rattle.index_sets.specs.Among.{or_no}
 

@@ -1,4 +1,6 @@
 // Sets of indexes, and how an index is found among entries.
+#![tactic(auto)]
+
 pub mod entries;
 pub mod marks;
 pub mod table;

@@ -1,4 +1,6 @@
 // The program: executes images and prints what they do.
+#![tactic(auto)]
+
 mod command;
 mod execution;
 mod fault;
@@ -16,14 +18,17 @@ use crate::fault::Fault;
 use crate::file::InputFile;
 use crate::story::Source;
 use std::env;
+use std::process::ExitCode;
 use worked_examples::example_image;
 
-fn main(rt: HostRuntime) -> Result<(), Fault> {
-    let answer = obey(&rt);
-    if let Err(fault) = &answer {
-        let _ = eprintln!(rt; "lerpuod: {fault}");
+fn main(rt: HostRuntime) -> ExitCode {
+    match obey(&rt) {
+        Ok(()) => ExitCode::SUCCESS,
+        Err(fault) => {
+            let _ = eprintln!(rt; "lerpuod: {fault}");
+            ExitCode::FAILURE
+        }
     }
-    answer
 }
 
 // Does what the arguments ask for.

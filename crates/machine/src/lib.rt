@@ -1,4 +1,6 @@
 // The uninterrupted machine: an image executed without cuts, over any memory for its words and any for its outputs.
+#![tactic(auto)]
+
 mod accesses;
 pub mod execute;
 pub mod load;

@@ -1,5 +1,5 @@
 -- What look and put answer, and what a put leaves, over a memory of the words ws.
-use Rattle.std.specs.Prelude.{◌≡◌, ℕ, ◌<◌, ◌≤◌, List, length, Ok, Err, Result, slice_index, slice_set}
+use Rattle.std.specs.Prelude.{◌≡◌, ℕ, ◌<◌, ◌≤◌, List, length, Ok, Result, slice_index, slice_set}
 use Rattle.memory.specs.declared.Refusal.{Refusal}
 use Rattle.memory.specs.Refusals.{Refused}
 

@@ -1,4 +1,6 @@
 // Memories: lists of words that can be looked at and put, whatever stands behind them.
+#![tactic(auto)]
+
 pub mod access;
 pub mod byte_bank;
 pub mod lanes;

@@ -5,6 +5,8 @@ use hart::action::{Limits, Stop};
 use hart::state::{Core, Hart};
 use machine::Machine;
 use memory::word_bank::WordBank;
+use std::fmt;
+use std::process::Abort;
 use std::test::*;
 
 /// The words of the log.
@@ -55,22 +57,28 @@ impl Board {
         self
     }
 
-    /// One step answers `answer`, and leaves `after`.
-    pub fn expect(self, answer: Option<Stop>, after: Board) -> Result<(), Fail> {
+    /// One step answers `answer`, and leaves `after`; `what` names the row in a failure.
+    pub fn expect(
+        self,
+        rt: &impl Abort,
+        what: &impl fmt::Display,
+        answer: Option<Stop>,
+        after: Board,
+    ) -> Result<(), Fail> {
         let mut machine = self.machine;
         let mut cells = self.cells;
         let mut log = self.log;
         let stop = machine.step(&mut WordBank::new(&mut cells), &mut WordBank::new(&mut log))?;
-        assert_eq!(stop, answer);
+        assert_eq!(rt; stop, answer, "{what}");
         let left = machine.core.hart;
         let wanted = after.machine.core.hart;
-        assert_eq!(left.pc, wanted.pc, "pc");
+        assert_eq!(rt; left.pc, wanted.pc, "{what}: pc");
         for r in 0..32 {
-            assert_eq!(left.read(r), wanted.read(r), "x{r}");
+            assert_eq!(rt; left.read(r), wanted.read(r), "{what}: x{r}");
         }
-        assert_eq!(machine, after.machine);
-        assert!(cells == after.cells, "memory");
-        assert_eq!(log, after.log, "log");
+        assert_eq!(rt; machine, after.machine, "{what}");
+        assert!(rt; cells == after.cells, "{what}: memory");
+        assert_eq!(rt; log, after.log, "{what}: log");
         Ok(())
     }
 }

@@ -5,6 +5,7 @@ use crate::table::{
     BRANCHES, CELL, IMMEDIATES, LOADS, OPERATIONS, RELATIVES, START, STORES, WORDS,
 };
 use hart::action::Limits;
+use std::process::Abort;
 use std::test::*;
 
 /// Where an instruction goes on that does not jump.
@@ -25,68 +26,68 @@ fn start(pc: u32, word: u32, before: [X; 2]) -> Board {
     board
 }
 
-fn compute(row: &Computed) -> Result<(), Fail> {
+fn compute(rt: &impl Abort, row: &Computed) -> Result<(), Fail> {
     let Computed(text, word, before, written) = *row;
     let board = start(START, word, before);
-    board.expect(None, board.retired(NEXT, written)).note(text)
+    board.expect(rt, &text, None, board.retired(NEXT, written))
 }
 
 #[test]
-fn operations() -> Result<(), Fail> {
+fn operations(rt: HostRuntime) -> Result<(), Fail> {
     for row in &OPERATIONS {
-        compute(row)?;
+        compute(&rt, row)?;
     }
     Ok(())
 }
 
 #[test]
-fn immediates() -> Result<(), Fail> {
+fn immediates(rt: HostRuntime) -> Result<(), Fail> {
     for row in &IMMEDIATES {
-        compute(row)?;
+        compute(&rt, row)?;
     }
     Ok(())
 }
 
 #[test]
-fn relatives() -> Result<(), Fail> {
+fn relatives(rt: HostRuntime) -> Result<(), Fail> {
     for row in &RELATIVES {
         let Linked(text, word, pc, before, next, written) = *row;
         let board = start(pc, word, [before, NONE]);
-        board.expect(None, board.retired(next, written)).note(text)?;
+        board.expect(&rt, &text, None, board.retired(next, written))?;
     }
     Ok(())
 }
 
 #[test]
-fn branches() -> Result<(), Fail> {
+fn branches(rt: HostRuntime) -> Result<(), Fail> {
     for row in &BRANCHES {
         let Branched(text, word, before, next) = *row;
         let board = start(START, word, before);
-        board.expect(None, board.retired(next, NONE)).note(text)?;
+        board.expect(&rt, &text, None, board.retired(next, NONE))?;
     }
     Ok(())
 }
 
 #[test]
-fn loads() -> Result<(), Fail> {
+fn loads(rt: HostRuntime) -> Result<(), Fail> {
     for row in &LOADS {
         let Loaded(text, word, before, cell, written) = *row;
         let mut board = start(START, word, [before, NONE]);
         board.cells[CELL] = cell;
-        board.expect(None, board.retired(NEXT, written)).note(text)?;
+        board.expect(&rt, &text, None, board.retired(NEXT, written))?;
     }
     Ok(())
 }
 
 #[test]
-fn stores() -> Result<(), Fail> {
+fn stores(rt: HostRuntime) -> Result<(), Fail> {
     for row in &STORES {
         let Stored(text, word, before, cell, cell_after) = *row;
         let mut board = start(START, word, before);
         board.cells[CELL] = cell;
         let mut after = board.retired(NEXT, NONE);
         after.cells[CELL] = cell_after;
-        board.expect(None, after).note(text)?;
+        board.expect(&rt, &text, None, after)?;
     }
     Ok(())
 }

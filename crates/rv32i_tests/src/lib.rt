@@ -1,4 +1,6 @@
 // RV32I: the machine beside an independent one, the decoder beside an independent assembler, and the stops.
+#![tactic(auto)]
+
 #[cfg(test)]
 mod bench;
 #[cfg(test)]

@@ -6,67 +6,63 @@ use hart::action::Stop;
 use std::test::*;
 
 #[test]
-fn stops_change_nothing() -> Result<(), Fail> {
+fn stops_change_nothing(rt: HostRuntime) -> Result<(), Fail> {
     for Stopped(state, stop) in &STOPS {
         let board = state.board();
-        board
-            .expect(Some(*stop), board)
-            .note(format_args!("{state:?}"))?;
+        board.expect(&rt, &format_args!("{state:?}"), Some(*stop), board)?;
     }
     Ok(())
 }
 
 #[test]
-fn near_a_stop() -> Result<(), Fail> {
+fn near_a_stop(rt: HostRuntime) -> Result<(), Fail> {
     for Passed(state, pc, register) in &PASSES {
         let board = state.board();
         let after = board.retired(*pc, *register);
-        board.expect(None, after).note(format_args!("{state:?}"))?;
+        board.expect(&rt, &format_args!("{state:?}"), None, after)?;
     }
     Ok(())
 }
 
 #[test]
-fn stops_at_the_next_step() -> Result<(), Fail> {
+fn stops_at_the_next_step(rt: HostRuntime) -> Result<(), Fail> {
     for Last(state, pc, register, stop) in &LASTS {
         let board = state.board();
         let after = board.retired(*pc, *register);
-        board.expect(None, after).note(format_args!("{state:?}"))?;
-        after
-            .expect(Some(*stop), after)
-            .note(format_args!("{state:?}"))?;
+        board.expect(&rt, &format_args!("{state:?}"), None, after)?;
+        after.expect(&rt, &format_args!("{state:?}"), Some(*stop), after)?;
     }
     Ok(())
 }
 
 #[test]
-fn stores_at_the_ends() -> Result<(), Fail> {
+fn stores_at_the_ends(rt: HostRuntime) -> Result<(), Fail> {
     for Wrote(state, index, word) in &WRITES {
         let board = state.board();
         let mut after = board.retired(4, NONE);
         if *index < WORDS {
             after.cells[*index] = *word;
         }
-        board.expect(None, after).note(format_args!("{state:?}"))?;
+        board.expect(&rt, &format_args!("{state:?}"), None, after)?;
     }
     Ok(())
 }
 
 // The same output three times, where two are allowed.
 #[test]
-fn outputs() -> Result<(), Fail> {
+fn outputs(rt: HostRuntime) -> Result<(), Fail> {
     let none = OUTPUT.board();
     let mut one = none.retired(4, NONE);
     one.machine.core.sent = 1;
     one.log = [VALUE, IDLE];
-    none.expect(None, one)?;
+    none.expect(&rt, &"the first output", None, one)?;
     one.machine.core.hart.pc = 0;
     let mut two = one.retired(4, NONE);
     two.machine.core.sent = 2;
     two.log = [VALUE, VALUE];
-    one.expect(None, two)?;
+    one.expect(&rt, &"the second output", None, two)?;
     two.machine.core.hart.pc = 0;
-    two.expect(Some(Stop::OutputsFull), two)
+    two.expect(&rt, &"the third output", Some(Stop::OutputsFull), two)
 }
 
 #[test]

@@ -1,4 +1,6 @@
 // Section memories: memories that mark what a section reads, so that it can be executed again after a cut.
+#![tactic(auto)]
+
 pub mod detector;
 pub mod lent;
 pub mod section;

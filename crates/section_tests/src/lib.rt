@@ -1,4 +1,6 @@
 // Piles of section memories, executed against a plain model.
+#![tactic(auto)]
+
 #[cfg(test)]
 mod calls;
 #[cfg(test)]

@@ -1,4 +1,6 @@
 // Worked examples: the example image, and what is proved of it and of other examples.
+#![tactic(auto)]
+
 ghost use Rattle.std.specs.Prelude.{◌≡◌};
 ghost use Rattle.worked_examples.specs.Examples.{example, WorkedExamples};
 

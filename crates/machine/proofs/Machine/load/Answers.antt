@@ -16,11 +16,11 @@ use Rattle.machine.proofs.Machine.load.Goals.{then-words-header-via-then-words-h
 abbrev machine : Limits → Core → Machine
 machine l k = record { limits = l; core = k }
 
-pub returns-in-err-image : goal.returns-in-err-image
-returns-in-err-image g c =
-    let p = err_from_is_err_and c.from-residual.result c.from-residual.ensures.1 in
+pub returns-in_err-image : goal.returns-in_err-image
+returns-in_err-image g c =
+    let p = err_from_is_err_and c.from_residual.result c.from_residual.ensures.1 in
     record {
-      load = rw (p.1, p.2) (no_image c.args.bytes.now _ _ _ c.in-err-image.ensures, refl);
+      load = rw (p.1, p.2) (no_image c.args.bytes.now _ _ _ c.in_err-image.ensures, refl);
       home = refl;
     }
 
@@ -29,7 +29,7 @@ returns-then-words-header g c =
     let bs = c.args.bytes.now in
     let ws = g.M.Memory.words c.args.memory.now in
     let log = g.L.Memory.words c.args.log.now in
-    let h : c.header-header.result ≡ header bs = c.header-header.ensures ∙ c.in-ok-image.ensures.1 in
+    let h : c.header-header.result ≡ header bs = c.header-header.ensures ∙ c.in_ok-image.ensures.1 in
     let hw : c.header-header.result.words ≡ (header bs).words = ap (λ (x : Header). x.words) h in
     let ho : c.header-header.result.outputs ≡ (header bs).outputs = ap (λ (x : Header). x.outputs) h in
     let small : (length ws < (header bs).words) ⊎ (length log < (header bs).outputs) =
@@ -38,7 +38,7 @@ returns-then-words-header g c =
       | then-words-header-via-else-words-header+then-outputs-header w ↦ inr (omega (arith, c.size-outputs.ensures.size, w.if-outputs-header.true))
     ] in
     record {
-      load = (too_small bs (length ws) (length log) c.in-ok-image.ensures.0 small, refl);
+      load = (too_small bs (length ws) (length log) c.in_ok-image.ensures.0 small, refl);
       home = refl;
     }
 
@@ -47,15 +47,15 @@ returns g c =
     let bs = c.args.bytes.now in
     let ws = g.M.Memory.words c.args.memory.now in
     let log = g.L.Memory.words c.args.log.now in
-    let ok = c.in-ok-image.ensures.0 in
-    let h : c.header-header.result ≡ header bs = c.header-header.ensures ∙ c.in-ok-image.ensures.1 in
+    let ok = c.in_ok-image.ensures.0 in
+    let h : c.header-header.result ≡ header bs = c.header-header.ensures ∙ c.in_ok-image.ensures.1 in
     let hw : c.header-header.result.words ≡ (header bs).words = ap (λ (x : Header). x.words) h in
     let ho : c.header-header.result.outputs ≡ (header bs).outputs = ap (λ (x : Header). x.outputs) h in
     let he : c.header-header.result.entry ≡ (header bs).entry = ap (λ (x : Header). x.entry) h in
-    let ws' = g.M.Memory.words c.put-words.new.memory in
+    let ws' = g.M.Memory.words c.put_words.new.memory in
     let filled : Filled (whole_words (drop 28 bs)) (header bs).words ws ws' =
     subst (λ (n : ℕ). Filled (whole_words (drop 28 bs)) n ws ws') hw
-    (subst (λ (m : List ℕ). Filled (whole_words m) c.header-header.result.words ws ws') c.in-ok-image.ensures.2 c.put-words.ensures.words) in
+    (subst (λ (m : List ℕ). Filled (whole_words m) c.header-header.result.words ws ws') c.in_ok-image.ensures.2 c.put_words.ensures.words) in
     let fits : (header bs).words ≤ length ws = omega (arith, c.size-words.ensures.size, c.if-words-header.false) in
     record {
       load = (
@@ -64,5 +64,5 @@ returns g c =
             ∙ ap (machine (limits bs)) (c.start.ensures ∙ ap started he),
         image_put bs ws ws' ok fits filled,
       );
-      home = c.put-words.ensures.home;
+      home = c.put_words.ensures.home;
     }

@@ -20,7 +20,7 @@ returns-in-Some g c =
     subst (λ (l : Limits). Advanced l at.self.core ws' log' to.self.core ws'' log'' (Some z)) at.invariant.limits c.in-Some.ensures.step in
     record {
       run = (
-        c.in-ok-check-sizes.ensures.sizes,
+        c.in_ok-check_sizes.ensures.sizes,
         c.advance.ensures.limits ∙ at.invariant.limits,
         finished_from m.limits m.core ws log at.self.core ws' log' to.self.core ws'' log'' z at.invariant.ends at.invariant.words_size at.invariant.log_size
             (stops_there m.limits at.self.core ws' log' to.self.core ws'' log'' z turn),
@@ -35,7 +35,7 @@ loop-stop-smaller g c =
     let to = c.advance.new in
     let h : at.self.limits.instructions - to.self.core.ran < at.self.limits.instructions - at.self.core.ran =
     fewer_left at.self.limits at.self.core (g.M.Memory.words at.memory) (g.L.Memory.words at.log)
-    to.self.core (g.M.Memory.words to.memory) (g.L.Memory.words to.log) c.in-default.ensures.step in
+    to.self.core (g.M.Memory.words to.memory) (g.L.Memory.words to.log) c.in_default.ensures.step in
     subst (λ (l : Limits). l.instructions - to.self.core.ran < at.self.limits.instructions - at.self.core.ran) (sym c.advance.ensures.limits) h
 
 pub loop-stop-preserved : goal.loop-stop-preserved
@@ -48,7 +48,7 @@ loop-stop-preserved g c =
     let ws'' = g.M.Memory.words to.memory in
     let log'' = g.L.Memory.words to.log in
     let turn : Advanced m.limits at.self.core ws' log' to.self.core ws'' log'' None =
-    subst (λ (l : Limits). Advanced l at.self.core ws' log' to.self.core ws'' log'' None) at.invariant.limits c.in-default.ensures.step in
+    subst (λ (l : Limits). Advanced l at.self.core ws' log' to.self.core ws'' log'' None) at.invariant.limits c.in_default.ensures.step in
     let same : to.self.limits ≡ at.self.limits = c.advance.ensures.limits in
     let w : to.self.limits.words ≡ at.self.limits.words = ap (λ (l : Limits). l.words) same in
     let o : to.self.limits.outputs ≡ at.self.limits.outputs = ap (λ (l : Limits). l.outputs) same in

@@ -16,6 +16,6 @@ returns c =
     let lt = same_tail _ _ _ _ c.execute.ensures.log_home in
     record {
       execute = execute_alike c.args.bytes.now c.execute.result _ _ _ _ _ _ _ _ (search rules) (search rules) (search rules) (search rules) c.execute.ensures.execute;
-      memory-rest = search rules;
-      log-rest = search rules;
+      memory_rest = search rules;
+      log_rest = search rules;
     }

@@ -6,69 +6,69 @@ use Rattle.image.proofs.header.Header.check.Goals as goal
 answer : {r test b : Bool} → r ≡ test → r ≡ b → test ≡ b
 answer is was = sym is ∙ was
 
-pub returns-then-not-is-between : goal.returns-then-not-is-between
-returns-then-not-is-between c =
+pub returns-then-not-is_between : goal.returns-then-not-is_between
+returns-then-not-is_between c =
     bad_words c.args.self.now
-    (answer c.is-between.ensures c.if-not-is-between.true)
+    (answer c.is_between.ensures c.if-not-is_between.true)
 
-pub returns-then-not-is-between-2 : goal.returns-then-not-is-between-2
-returns-then-not-is-between-2 c =
+pub returns-then-not-is_between-2 : goal.returns-then-not-is_between-2
+returns-then-not-is_between-2 c =
     bad_text c.args.self.now
-    (answer c.is-between.ensures c.if-not-is-between.false)
-    (answer c.is-between-2.ensures c.if-not-is-between-2.true)
+    (answer c.is_between.ensures c.if-not-is_between.false)
+    (answer c.is_between-2.ensures c.if-not-is_between-2.true)
 
-pub returns-then-not-is-between-3 : goal.returns-then-not-is-between-3
-returns-then-not-is-between-3 c =
+pub returns-then-not-is_between-3 : goal.returns-then-not-is_between-3
+returns-then-not-is_between-3 c =
     bad_given c.args.self.now
-    (answer c.is-between.ensures c.if-not-is-between.false)
-    (answer c.is-between-2.ensures c.if-not-is-between-2.false)
-    (answer c.is-between-3.ensures c.if-not-is-between-3.true)
+    (answer c.is_between.ensures c.if-not-is_between.false)
+    (answer c.is_between-2.ensures c.if-not-is_between-2.false)
+    (answer c.is_between-3.ensures c.if-not-is_between-3.true)
 
-pub returns-then-not-is-address : goal.returns-then-not-is-address
-returns-then-not-is-address c =
+pub returns-then-not-is_address : goal.returns-then-not-is_address
+returns-then-not-is_address c =
     bad_entry c.args.self.now
-    (answer c.is-between.ensures c.if-not-is-between.false)
-    (answer c.is-between-2.ensures c.if-not-is-between-2.false)
-    (answer c.is-between-3.ensures c.if-not-is-between-3.false)
-    (answer c.is-address.ensures c.if-not-is-address.true)
+    (answer c.is_between.ensures c.if-not-is_between.false)
+    (answer c.is_between-2.ensures c.if-not-is_between-2.false)
+    (answer c.is_between-3.ensures c.if-not-is_between-3.false)
+    (answer c.is_address.ensures c.if-not-is_address.true)
 
-pub returns-then-not-is-between-4 : goal.returns-then-not-is-between-4
-returns-then-not-is-between-4 c =
+pub returns-then-not-is_between-4 : goal.returns-then-not-is_between-4
+returns-then-not-is_between-4 c =
     bad_period c.args.self.now
-    (answer c.is-between.ensures c.if-not-is-between.false)
-    (answer c.is-between-2.ensures c.if-not-is-between-2.false)
-    (answer c.is-between-3.ensures c.if-not-is-between-3.false)
-    (answer c.is-address.ensures c.if-not-is-address.false)
-    (answer c.is-between-4.ensures c.if-not-is-between-4.true)
+    (answer c.is_between.ensures c.if-not-is_between.false)
+    (answer c.is_between-2.ensures c.if-not-is_between-2.false)
+    (answer c.is_between-3.ensures c.if-not-is_between-3.false)
+    (answer c.is_address.ensures c.if-not-is_address.false)
+    (answer c.is_between-4.ensures c.if-not-is_between-4.true)
 
-pub returns-then-self-gt-MOST-OUTPUTS : goal.returns-then-self-gt-MOST-OUTPUTS
-returns-then-self-gt-MOST-OUTPUTS c =
+pub returns-then-self-gt-MOST_OUTPUTS : goal.returns-then-self-gt-MOST_OUTPUTS
+returns-then-self-gt-MOST_OUTPUTS c =
     bad_outputs c.args.self.now
-    (answer c.is-between.ensures c.if-not-is-between.false)
-    (answer c.is-between-2.ensures c.if-not-is-between-2.false)
-    (answer c.is-between-3.ensures c.if-not-is-between-3.false)
-    (answer c.is-address.ensures c.if-not-is-address.false)
-    (answer c.is-between-4.ensures c.if-not-is-between-4.false)
-    c.if-self-gt-MOST-OUTPUTS.true
+    (answer c.is_between.ensures c.if-not-is_between.false)
+    (answer c.is_between-2.ensures c.if-not-is_between-2.false)
+    (answer c.is_between-3.ensures c.if-not-is_between-3.false)
+    (answer c.is_address.ensures c.if-not-is_address.false)
+    (answer c.is_between-4.ensures c.if-not-is_between-4.false)
+    c.if-self-gt-MOST_OUTPUTS.true
 
 pub returns-then-self-lt1 : goal.returns-then-self-lt1
 returns-then-self-lt1 c =
     bad_limit c.args.self.now
-    (answer c.is-between.ensures c.if-not-is-between.false)
-    (answer c.is-between-2.ensures c.if-not-is-between-2.false)
-    (answer c.is-between-3.ensures c.if-not-is-between-3.false)
-    (answer c.is-address.ensures c.if-not-is-address.false)
-    (answer c.is-between-4.ensures c.if-not-is-between-4.false)
-    c.if-self-gt-MOST-OUTPUTS.false
+    (answer c.is_between.ensures c.if-not-is_between.false)
+    (answer c.is_between-2.ensures c.if-not-is_between-2.false)
+    (answer c.is_between-3.ensures c.if-not-is_between-3.false)
+    (answer c.is_address.ensures c.if-not-is_address.false)
+    (answer c.is_between-4.ensures c.if-not-is_between-4.false)
+    c.if-self-gt-MOST_OUTPUTS.false
     c.if-self-lt1.true
 
 pub returns : goal.returns
 returns c =
     good_header c.args.self.now
-    (answer c.is-between.ensures c.if-not-is-between.false)
-    (answer c.is-between-2.ensures c.if-not-is-between-2.false)
-    (answer c.is-between-3.ensures c.if-not-is-between-3.false)
-    (answer c.is-address.ensures c.if-not-is-address.false)
-    (answer c.is-between-4.ensures c.if-not-is-between-4.false)
-    c.if-self-gt-MOST-OUTPUTS.false
+    (answer c.is_between.ensures c.if-not-is_between.false)
+    (answer c.is_between-2.ensures c.if-not-is_between-2.false)
+    (answer c.is_between-3.ensures c.if-not-is_between-3.false)
+    (answer c.is_address.ensures c.if-not-is_address.false)
+    (answer c.is_between-4.ensures c.if-not-is_between-4.false)
+    c.if-self-gt-MOST_OUTPUTS.false
     c.if-self-lt1.false

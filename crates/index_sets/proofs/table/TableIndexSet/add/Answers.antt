@@ -1,4 +1,4 @@
-use Rattle.std.proofs.Common.{◌≡◌, ◌<◌, ◌≤◌, length, get_or, take, sym, refl, arith}
+use Rattle.std.proofs.Common.{◌<◌, length, get_or, take, sym, refl, arith}
 use Rattle.std.proofs.lemmas.List.{length-take}
 use Rattle.index_sets.specs.Among.{among_at, small_push, apart_push, among_more}
 use Rattle.index_sets.proofs.table.TableIndexSet.add.Goals as goal
@@ -20,18 +20,14 @@ returns-then-len-ge-ROOM c =
       room = λ _ h. absurd (omega arith);
     }
 
-pub invariant-of-self : goal.invariant-of-self
-invariant-of-self c =
-    let room : c.args.self.now.len < length c.args.self.now.items = omega arith in (
-      omega arith,
-      (
-        small_push _ _ _ room c.if-index-ge-MOST-INDEXES.false c.args.self.now.small,
-        (
-          apart_push _ _ _ room (sym c.if-has.ensures) c.args.self.now.apart,
-          tt,
-        ),
-      ),
-    )
+pub invariant_of-self : goal.invariant_of-self
+invariant_of-self c =
+    let room : c.args.self.now.len < length c.args.self.now.items = omega arith in
+    record {
+      few = omega arith;
+      small = small_push _ _ _ room c.if-index-ge-MOST_INDEXES.false c.args.self.now.small;
+      apart = apart_push _ _ _ room (sym c.if-has.ensures) c.args.self.now.apart;
+    }
 
 pub returns : goal.returns
 returns c =

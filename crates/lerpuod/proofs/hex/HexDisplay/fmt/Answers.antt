@@ -11,4 +11,4 @@ returns-clause-writes g c plain ok =
     c.digit-d3.result c.digit-d2.result c.digit-d1.result c.digit-d0.result
     c.digit-d7.ensures c.digit-d6.ensures c.digit-d5.ensures c.digit-d4.ensures
     c.digit-d3.ensures c.digit-d2.ensures c.digit-d1.ensures c.digit-d0.ensures in
-    subst (λ (bs : List ℕ). HasWritten g.W.Write.write_str_gives c.args.f.now bs c.write.new.self) text (c.write.ensures.shows plain ok)
+    subst (λ (bs : List ℕ). HasWritten g.W.Write.write_str_gives c.args.f.now bs c.write.new.self) text (c.write.ensures.writes plain ok)

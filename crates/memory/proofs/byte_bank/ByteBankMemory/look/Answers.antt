@@ -1,6 +1,6 @@
-use Rattle.std.proofs.Common.{◌≡◌, ◌+◌, ◌*◌, ◌<◌, length, Ok, Err, sym, refl, ap, ◌∙◌, arith, length-set}
+use Rattle.std.proofs.Common.{◌<◌, Ok, sym, ap, ◌∙◌, arith}
 use Rattle.memory.specs.Bytes.{packed_size}
-use Rattle.memory.proofs.Packed.{packed_length, packed_fits, packed_at, packed_put}
+use Rattle.memory.proofs.Packed.{packed_length, packed_fits, packed_at}
 use Rattle.memory.proofs.byte_bank.ByteBankMemory.look.Goals as goal
 
 pub bounds-self-at : goal.bounds-self-at
@@ -32,6 +32,6 @@ returns c =
     let bs = c.args.self.now.bytes.now in (
       (λ h.
           let l : c.args.index < packed_size bs = omega (arith, h, packed_length bs) in
-          ap Ok (c.from-le-bytes.ensures ∙ sym (packed_at bs c.args.index l))),
+          ap Ok (c.from_le_bytes.ensures ∙ sym (packed_at bs c.args.index l))),
       λ h. absurd (omega (arith, h, c.size.ensures.size, c.if-index-size.false)),
     )

@@ -1,6 +1,6 @@
-use Rattle.std.proofs.Common.{◌≡◌, ℕ, ◌+◌, ◌*◌, ◌<◌, List, ◌∷◌, length, Ok, Err, sym, refl, ap, ◌∙◌, arith, length-set}
+use Rattle.std.proofs.Common.{ℕ, ◌<◌, List, ◌∷◌, refl, ap, arith, length-set}
 use Rattle.memory.specs.Bytes.{packed_size}
-use Rattle.memory.proofs.Packed.{packed_length, packed_fits, packed_at, packed_put, beside_put}
+use Rattle.memory.proofs.Packed.{packed_length, packed_fits, packed_put, beside_put}
 use Rattle.memory.proofs.byte_bank.ByteBankMemory.put.Goals as goal
 
 pub bounds-self-at : goal.bounds-self-at

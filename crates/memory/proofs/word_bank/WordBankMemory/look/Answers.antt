@@ -1,8 +1,8 @@
-use Rattle.std.proofs.Common.{◌<◌, length, Ok, Err, sym, ap, arith, length-take, get_or-take}
+use Rattle.std.proofs.Common.{◌<◌, arith, length-take, get_or-take}
 use Rattle.memory.proofs.word_bank.WordBankMemory.look.Goals as goal
 
-pub offset-bounds-self-index : goal.offset-bounds-self-index
-offset-bounds-self-index c = omega (arith, c.size.ensures.few)
+pub offset_bounds-self-index : goal.offset_bounds-self-index
+offset_bounds-self-index c = omega (arith, c.size.ensures.few)
 
 pub bounds-self-index : goal.bounds-self-index
 bounds-self-index c = omega (arith, length-take 16384 c.args.self.now.cells.now, c.size.ensures.size)

@@ -1,10 +1,10 @@
-use Rattle.std.proofs.Common.{ℕ, ◌<◌, List, ◌∷◌, length, sym, refl, ap, arith, length-take}
+use Rattle.std.proofs.Common.{ℕ, ◌<◌, List, ◌∷◌, refl, ap, arith, length-take}
 use lib.Seq.{take-set-lt}
 use Rattle.std.proofs.lemmas.List.{drop-set-lt}
 use Rattle.memory.proofs.word_bank.WordBankMemory.put.Goals as goal
 
-pub offset-bounds-self-index : goal.offset-bounds-self-index
-offset-bounds-self-index c = omega (arith, c.size.ensures.few)
+pub offset_bounds-self-index : goal.offset_bounds-self-index
+offset_bounds-self-index c = omega (arith, c.size.ensures.few)
 
 pub bounds-self-index : goal.bounds-self-index
 bounds-self-index c = omega (arith, length-take 16384 c.args.self.now.cells.now, c.size.ensures.size)

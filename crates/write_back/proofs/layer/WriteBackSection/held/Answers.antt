@@ -26,17 +26,17 @@ module _ (ps qs : List (ℕ × ℕ)) (k n : ℕ) (e : n ≡ length ps) where
 pub returns-then-k-lower : goal.returns-then-k-lower
 returns-then-k-lower g c m =
     let s = c.args.self.now in
-    lower_pair (g.S.Section.view s.lower).pairs (own s.own) c.args.k _ (c.pair-count-lower.ensures m.layer.0)
+    lower_pair (g.S.Section.view s.lower).pairs (own s.own) c.args.k _ (c.pair_count-lower.ensures m.layer.0)
     c.held.result c.if-k-lower.true (c.held.ensures m.layer.0)
 
 pub returns-in-Some : goal.returns-in-Some
 returns-in-Some g c m =
     let s = c.args.self.now in
-    own_pair (g.S.Section.view s.lower).pairs (own s.own) c.args.k _ (c.pair-count-lower.ensures m.layer.0)
+    own_pair (g.S.Section.view s.lower).pairs (own s.own) c.args.k _ (c.pair_count-lower.ensures m.layer.0)
     c.in-Some.pair c.if-k-lower.false c.in-Some.ensures
 
 pub returns-in-None : goal.returns-in-None
 returns-in-None g c m =
     let s = c.args.self.now in
-    no_pair (g.S.Section.view s.lower).pairs (own s.own) c.args.k _ (c.pair-count-lower.ensures m.layer.0)
+    no_pair (g.S.Section.view s.lower).pairs (own s.own) c.args.k _ (c.pair_count-lower.ensures m.layer.0)
     c.if-k-lower.false c.in-None.ensures

@@ -8,7 +8,7 @@ returns g c m =
     let s = c.args.self.now in
     omega (
       arith,
-      c.pair-count.ensures m.layer.0,
+      c.pair_count.ensures m.layer.0,
       m.layer.0.facts.few,
       m.layer.0.facts.cap,
       length-append (g.S.Section.view s.lower).pairs (own s.own),

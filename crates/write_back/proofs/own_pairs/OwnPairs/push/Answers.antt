@@ -11,11 +11,11 @@ room row n h l = omega (arith, use_length row n h)
 pub bounds-row-len : goal.bounds-row-len
 bounds-row-len c = let o = c.args.self.now in room o.row o.len (omega arith) c.requires
 
-pub invariant-of-self : goal.invariant-of-self
-invariant-of-self c =
+pub invariant_of-self : goal.invariant_of-self
+invariant_of-self c =
     let o = c.args.self.now in
     let l = room o.row o.len (omega arith) c.requires in
-    (omega arith, (simp length-set o.whole, tt))
+    record { few = omega arith; whole = simp length-set o.whole }
 
 pub returns : goal.returns
 returns c =
