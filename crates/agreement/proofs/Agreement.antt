@@ -8,7 +8,6 @@ use Rattle.section.specs.View.{View, fresh}
 use Rattle.image.specs.Image.{header}
 use Rattle.image.specs.Accepted.{Accepted}
 use Rattle.image.specs.declared.header.Header.{Header}
-use Rattle.hart.specs.declared.state.Core.{Core}
 use Rattle.machine.specs.Processor.{stop, State, doing, after}
 use Rattle.machine.specs.Rv32i.{rv32i}
 use Rattle.machine.specs.Run.{limits_of, run_start, run_end, run_count, run_stop, run_outputs, run_words}
@@ -17,7 +16,7 @@ use Rattle.agreement.specs.Board.{Board, Laws}
 use Rattle.agreement.specs.Store.{current}
 use Rattle.agreement.specs.Turns.{Choice}
 use Rattle.agreement.specs.Charge.{Bank, At, is_finished, begin, spend, cut}
-use Rattle.agreement.specs.Calls.{Kind, board, ready, Runner, Report, Reply, refused, gave, Outcome, store_question, report, charging, register_of, register_at, word_of, Call, charge, take, register, word, call, History, play}
+use Rattle.agreement.specs.Calls.{Kind, board, ready, Runner, Reply, refused, gave, Outcome, store_question, report, charging, register_of, register_at, word_of, Call, charge, take, register, word, call, History, play}
 use Rattle.agreement.specs.Agreement.{got, taken, finishes, finished, ample_charge, ample, sufficient, Final, Right, AllRight, Agrees, Agreement}
 use Rattle.agreement.proofs.Charges.{sealed, Sound, Finished, Onward, is_charged, sound_order, sealed_output, sealed_most}
 use Rattle.agreement.proofs.Board.{laws}

@@ -21,7 +21,7 @@ use Rattle.image.specs.declared.header.Header.{Header}
 use Rattle.machine.specs.Rv32i.{loading, effect, rv32i}
 use Rattle.machine.specs.Run.{limits_of}
 use Rattle.machine.proofs.Ends.{number_bounds}
-use Rattle.agreement.specs.Board.{Lawful, Keeps, Board, Laws}
+use Rattle.agreement.specs.Board.{Lawful, Keeps, Laws}
 use Rattle.agreement.specs.Calls.{sane, due_of, Kind, board}
 
 -- ---- pc stays a multiple of 4

@@ -2,20 +2,18 @@
 use Rattle.std.proofs.Common.{◌≡◌, ℕ, zero, suc, ◌+◌, ◌-◌, ◌<◌, ◌≤◌, Bool, true, false, ◌⊎◌, length, get_or, sym, refl, ap, ◌∙◌, subst, inl, inr, le_trans, le_refl, arith}
 use mathlib.Core.Path.{fun_ext}
 use Rattle.std.proofs.lemmas.Bool.{false≢true}
-use Rattle.section.specs.View.{Apart}
-use Rattle.hart.specs.declared.state.Core.{Core}
 use Rattle.machine.specs.Processor.{stop, State, doing}
 use Rattle.agreement.specs.Board.{Board, Laws}
-use Rattle.agreement.specs.Store.{Slot, current, in_order}
+use Rattle.agreement.specs.Store.{current, in_order}
 use Rattle.agreement.specs.Turns.{Phase, restart, settle, run, seal, finished, Choice, Deed, torn, upcoming}
 use Rattle.agreement.specs.Charge.{Bank, At, is_finished, apply, tick, begin, spend, cut}
 use Rattle.agreement.proofs.Dead.{dead_stop, ok_same}
-use Rattle.agreement.proofs.Leads.{Leads, leads_stop, after_log, after_sent, after_ran}
+use Rattle.agreement.proofs.Leads.{leads_stop, after_log, after_sent, after_ran}
 use Rattle.agreement.proofs.Device.{at, look}
-use Rattle.agreement.proofs.Invariant.{Cut, Good, Cuts, ticked, cuts}
+use Rattle.agreement.proofs.Invariant.{Good, Cuts, ticked, cuts}
 use Rattle.agreement.proofs.Progress.{full, need, settle_need, Counts, torn_slot}
 use Rattle.agreement.proofs.Progress as progress
-use Rattle.agreement.proofs.Standing.{inner_at, dev, Standing, stands_test, Ready, Done, Clean, clean, same_turn}
+use Rattle.agreement.proofs.Standing.{inner_at, dev, Standing, stands_test, Ready, Done, clean, same_turn}
 
 module _ (b : Board) where
   -- spending m units and then n is spending all of them

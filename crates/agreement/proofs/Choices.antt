@@ -1,13 +1,13 @@
 -- From what a section memory's contract says to a choice.
 use Rattle.std.proofs.Common.{◌≡◌, ℕ, ◌<◌, ◌≤◌, Bool, true, false, cond, not, ◌&&◌, ◌||◌, eqb, ltb, leb, ◌⊎◌, List, [], length, get_or, set, is_some, Some, None, Ok, Err, Option, Result, sym, refl, ap, ◌∙◌, subst, inl, inr, ⊎_elim}
 use Rattle.std.proofs.lemmas.Bool.{eq-eqb, le-leb, lt-ltb, le-ltb, cond-true, cond-false, cases_Bool, cases_lt}
-use Rattle.memory.specs.Contents.{Mem, word}
+use Rattle.memory.specs.Contents.{word}
 use Rattle.memory.specs.Lanes.{merged}
 use Rattle.index_sets.specs.Sets.{joined}
 use Rattle.section.specs.declared.Refusal.{Refusal}
 use Rattle.section.specs.Refusals.{number, Refused}
 use Rattle.section.specs.View.{View, Facts, fresh, held, or_word, seen, Apart}
-use Rattle.section.specs.Calls.{known, with_read, Entered, Read, Stored, HeldBack, Kept, Write}
+use Rattle.section.specs.Calls.{known, with_read, Entered, Read, Stored, Kept, Write}
 use Rattle.section.proofs.Laws.{not_held}
 use Rattle.section.proofs.Pairs.{holds_same, Holds}
 use Rattle.hart.specs.State.{next}
@@ -16,9 +16,9 @@ use Rattle.hart.specs.declared.state.Core.{Core}
 use Rattle.machine.specs.Processor.{Effect, load, store}
 use Rattle.agreement.specs.Pairs.{Pair, is_held, hold}
 use Rattle.agreement.specs.Board.{Board}
-use Rattle.agreement.specs.Turns.{Section, Choice, Deed, idle, write, torn, Turn, turn, run, sealing, later, with_write, with_pairs, loading, storing, refuses, holding_on, perform}
+use Rattle.agreement.specs.Turns.{Section, Choice, idle, write, torn, Turn, turn, run, sealing, later, with_write, with_pairs, loading, storing, refuses, holding_on, perform}
 use Rattle.agreement.specs.Charge.{Bank, reachable, apply}
-use Rattle.agreement.specs.Choices.{seal_stop, load_turn, write_deed, store_turn, TurnsMade, AnySectionMemory}
+use Rattle.agreement.specs.Choices.{seal_stop, load_turn, write_deed, store_turn, AnySectionMemory}
 use Rattle.agreement.proofs.Pairs.{kept_as, hold_holds, hold_apart, hold_length, in_inhabited}
 
 -- a view is known by its parts

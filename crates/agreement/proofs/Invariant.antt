@@ -1,24 +1,23 @@
 -- The invariant of an intermittent run, kept by every tick and every cut.
-use Rattle.std.proofs.Common.{◌≡◌, ℕ, zero, suc, ◌+◌, ◌<◌, Bool, true, false, not, ◌&&◌, ◌||◌, eqb, ltb, leb, ◌⊎◌, List, length, get_or, drop, is_some, Some, None, Option, sym, refl, ap, ◌∙◌, subst, inl, inr, le_refl, arith}
+use Rattle.std.proofs.Common.{◌≡◌, ℕ, zero, suc, ◌+◌, ◌<◌, Bool, true, false, not, ◌&&◌, ◌||◌, eqb, ltb, leb, ◌⊎◌, List, length, get_or, drop, is_some, None, sym, refl, ap, ◌∙◌, subst, inl, inr, le_refl, arith}
 use Rattle.std.proofs.lemmas.List.{drop_more, drop_all}
 use Rattle.std.proofs.lemmas.Bool.{eqb-true, and_parts, ltb-true, ltb-false, false≢true}
-use Rattle.memory.specs.Lanes.{Lane, merged}
-use Rattle.memory.specs.Contents.{Mem, put}
+use Rattle.memory.specs.Lanes.{merged}
+use Rattle.memory.specs.Contents.{put}
 use Rattle.memory.proofs.Contents.{put_other}
-use Rattle.section.specs.View.{held, Apart}
+use Rattle.section.specs.View.{Apart}
 use Rattle.section.specs.Calls.{known}
-use Rattle.section.proofs.Pairs.{some_none, held_at, Holds}
+use Rattle.section.proofs.Pairs.{some_none, held_at}
 use Rattle.hart.specs.State.{next}
-use Rattle.hart.specs.declared.state.Core.{Core}
 use Rattle.hart.specs.declared.state.Hart.{Hart}
 use Rattle.machine.specs.Processor.{Effect, stop, quiet, load, store, emit, State, doing, step}
 use Rattle.agreement.specs.Pairs.{Pair, seen_over, is_held}
-use Rattle.agreement.specs.Board.{Lawful, Board, Laws}
-use Rattle.agreement.specs.Store.{Slot, slot_size}
-use Rattle.agreement.specs.Turns.{Sealed, Section, Phase, restart, settle, run, seal, finished, Choice, Deed, idle, torn, Turn, turn, sealed, begun, settling_on, settling, filling, sealing, later, with_pairs, loading, storing, refuses, holding_on, perform, working, upcoming}
+use Rattle.agreement.specs.Board.{Board, Laws}
+use Rattle.agreement.specs.Store.{slot_size}
+use Rattle.agreement.specs.Turns.{Section, Phase, restart, settle, run, seal, finished, Choice, idle, torn, Turn, turn, sealed, begun, settling_on, settling, filling, sealing, later, with_pairs, loading, storing, refuses, holding_on, perform, working, upcoming}
 use Rattle.agreement.proofs.Words.{merge_full}
 use Rattle.agreement.proofs.Pairs.{apart_drop, seen_put, seen_settled, kept_holds, kept_apart}
-use Rattle.agreement.proofs.Dead.{Loads, Covers, Dead, Ok, Stands, stands_over, stands_under}
+use Rattle.agreement.proofs.Dead.{Stands, stands_over, stands_under}
 use Rattle.agreement.proofs.Leads.{Leads, leads_step}
 use Rattle.agreement.proofs.Running.{Running, fetched, written, quiet_runs, load_runs, load_enters, emit_runs, store_runs, store_holds}
 use Rattle.agreement.proofs.Device.{Device, At, at, look, with_word, with_output, with_slot, applied, did}

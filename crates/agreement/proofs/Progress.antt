@@ -9,7 +9,7 @@ use Rattle.machine.specs.Processor.{Effect, stop, quiet, load, store, emit}
 use Rattle.agreement.specs.Pairs.{Pair, seen_over, is_held}
 use Rattle.agreement.specs.Board.{Lawful, Board, Laws}
 use Rattle.agreement.specs.Store.{Slot, slot_size}
-use Rattle.agreement.specs.Turns.{Sealed, Section, Phase, restart, settle, run, seal, finished, Choice, Deed, idle, write, output, fill, commit, torn, Turn, turn, sealed, begun, settling_on, settling, filling, sealing, later, with_write, with_pairs, loading, storing, refuses, holding_on, perform, working, upcoming}
+use Rattle.agreement.specs.Turns.{Section, Phase, restart, settle, run, seal, finished, Choice, Deed, idle, write, output, fill, commit, torn, turn, sealed, begun, settling_on, settling, filling, sealing, later, with_write, with_pairs, loading, storing, refuses, holding_on, perform, working, upcoming}
 use Rattle.agreement.proofs.Pairs.{kept_few, inhabited_in}
 use Rattle.agreement.proofs.Device.{Device, At, at, look, with_word, with_output, with_slot, applied, did}
 

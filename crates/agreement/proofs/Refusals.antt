@@ -3,7 +3,7 @@ use Rattle.std.proofs.Common.{◌≡◌, ℕ, ◌+◌, Bool, true, false, cond, 
 use Rattle.image.specs.Questions.{Question}
 use Rattle.image.specs.declared.header.Header.{Header}
 use Rattle.agreement.specs.Turns.{Choice}
-use Rattle.agreement.specs.Calls.{Kind, Status, empty, ready, Runner, Report, Reply, refused, accepted, charged, gave, Outcome, asking, load_questions, register_of, slot_of, store_question, charging, charge_at, take_at, register_at, word_of, Call, charge, take, register, word, call}
+use Rattle.agreement.specs.Calls.{Kind, Status, empty, ready, Runner, Report, refused, accepted, charged, gave, Outcome, asking, load_questions, register_of, slot_of, store_question, charging, charge_at, take_at, register_at, word_of, Call, charge, take, register, word, call}
 use Rattle.agreement.specs.Refusals.{Unchanged, RefusalsChangeNothing}
 
 yes_is_none : (n : ℕ) (v : List ℕ) → accepted ≡ refused n v → ⊥

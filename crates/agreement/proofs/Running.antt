@@ -1,26 +1,24 @@
 -- A running section: what holds in it, and that each instruction keeps it.
-use Rattle.std.proofs.Common.{◌≡◌, ℕ, ◌+◌, ◌<◌, ◌≤◌, Bool, true, false, cond, not, eqb, ◌⊎◌, List, Some, None, Option, sym, refl, ap, ◌∙◌, subst, inl, inr, ⊎_elim, le_trans, arith}
+use Rattle.std.proofs.Common.{◌≡◌, ℕ, ◌+◌, ◌<◌, ◌≤◌, Bool, true, false, cond, eqb, ◌⊎◌, List, Some, None, Option, sym, refl, ap, ◌∙◌, subst, inl, inr, ⊎_elim, le_trans, arith}
 use Rattle.std.proofs.lemmas.Bool.{eqb-true, eqb-false, cases_eq, cases_Bool, both_ways, or_cases, or_parts, or_right, ne_eqb, cond-false}
 use Rattle.memory.specs.Lanes.{Lane, byte, names, merged}
-use Rattle.memory.specs.Contents.{Mem, put}
+use Rattle.memory.specs.Contents.{put}
 use Rattle.memory.proofs.Contents.{put_same, put_other}
 use Rattle.index_sets.specs.Sets.{joined}
 use Rattle.section.specs.View.{held, or_word, Apart}
 use Rattle.section.specs.Calls.{known, with_read}
 use Rattle.section.proofs.Pairs.{cases_option, Holds}
 use Rattle.hart.specs.State.{next, next_sent}
-use Rattle.hart.specs.declared.state.Core.{Core}
 use Rattle.hart.specs.declared.state.Hart.{Hart}
 use Rattle.machine.specs.Processor.{Effect, quiet, load, store, emit, State, enact, doing, step}
 use Rattle.agreement.specs.Pairs.{Pair, seen_over}
 use Rattle.agreement.specs.Board.{Lawful, Board, Laws}
-use Rattle.agreement.specs.Store.{Slot}
-use Rattle.agreement.specs.Turns.{Sealed, Section, Phase, Choice, Deed, Turn, later, with_write, with_pairs}
+use Rattle.agreement.specs.Turns.{Section, later, with_write, with_pairs}
 use Rattle.agreement.proofs.Words.{merge_out, full}
 use Rattle.agreement.proofs.Pairs.{seen_under, seen_held}
 use Rattle.agreement.proofs.Dead.{Loads, Covers, Dead, hit, miss, step_is, dead_loads, dead_above, Ok, Stands, ok_same, stands_put, stands_over, effect, stands_step}
-use Rattle.agreement.proofs.Leads.{Leads, step_sent}
-use Rattle.agreement.proofs.Device.{Device, At, at, with_word, with_output}
+use Rattle.agreement.proofs.Leads.{step_sent}
+use Rattle.agreement.proofs.Device.{Device, with_word, with_output}
 
 -- what holds in a section from m₀ that has come to m
 pub record Running (b : Board) (m₀ m : State) (d : Device) (s : Section) : Type 0 where

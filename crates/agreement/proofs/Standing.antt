@@ -15,7 +15,7 @@ use Rattle.machine.specs.Processor.{Effect, stop, quiet, load, store, emit}
 use Rattle.agreement.specs.Pairs.{Pair, seen_over, is_held, apart, between}
 use Rattle.agreement.specs.Board.{Lawful, Keeps, Board, Laws}
 use Rattle.agreement.specs.Store.{Slot, slot_words, slot_size, slot_start, commit_word, other, current_start, other_start, slot_at, current, slot_in_order, in_order}
-use Rattle.agreement.specs.Turns.{Sealed, Section, Phase, restart, settle, run, seal, finished, Choice, Deed, idle, write, output, fill, commit, torn, Turn, turn, sealed, begun, settling_on, settling, filling, sealed_as, sealing, later, with_pairs, loading, storing, refuses, holding_on, perform, working, upcoming}
+use Rattle.agreement.specs.Turns.{Section, Phase, restart, settle, run, seal, finished, Choice, Deed, idle, write, output, fill, commit, torn, Turn, turn, sealed, begun, settling_on, settling, filling, sealed_as, sealing, later, with_pairs, loading, storing, refuses, holding_on, perform, working, upcoming}
 use Rattle.agreement.specs.Charge.{Bank, reachable, input, apply}
 use Rattle.agreement.proofs.Pairs.{Between, between_test, apart_test, kept_index, kept_few}
 use Rattle.agreement.proofs.Store.{start_positive, start_apart, start_fits, slot_pair, slot_pairs, slot_same, slot_back}

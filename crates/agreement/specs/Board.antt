@@ -1,7 +1,6 @@
 -- A processor with the numbers that an intermittent run of it needs, and what the law asks of it.
 use Rattle.std.specs.Prelude.{◌≡◌, ℕ, ◌<◌, ◌≤◌, Bool, true, List, length}
 use Rattle.memory.specs.Contents.{Mem}
-use Rattle.hart.specs.declared.state.Hart.{Hart}
 use Rattle.hart.specs.declared.state.Core.{Core}
 use Rattle.hart.specs.State.{next, next_sent}
 use Rattle.machine.specs.Processor.{Effect, stop, quiet, load, store, emit, Processor}

@@ -7,7 +7,7 @@ use Rattle.section.specs.View.{View, Facts}
 use Rattle.section.specs.Calls.{Read, Write}
 use Rattle.hart.specs.State.{next}
 use Rattle.hart.specs.declared.state.Hart.{Hart}
-use Rattle.machine.specs.Processor.{Effect, load, store}
+use Rattle.machine.specs.Processor.{load, store}
 use Rattle.agreement.specs.Board.{Board}
 use Rattle.agreement.specs.Turns.{Section, Choice, Deed, idle, write, torn, Turn, turn, run, later, sealing, perform}
 use Rattle.agreement.specs.Charge.{Bank, reachable, apply}

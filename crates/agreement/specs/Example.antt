@@ -3,7 +3,7 @@ use Rattle.std.specs.Prelude.{◌≡◌, ℕ, true, false, List, [], ◌∷◌, 
 use Rattle.section.specs.View.{fresh}
 use Rattle.worked_examples.specs.Examples.{example}
 use Rattle.agreement.specs.Turns.{Choice}
-use Rattle.agreement.specs.Calls.{Kind, steady, empty, Runner, refused, accepted, charged, gave, charge, take, register, word, load, History, play}
+use Rattle.agreement.specs.Calls.{Kind, steady, empty, Runner, refused, accepted, charged, gave, charge, take, register, word, load, play}
 
 -- an empty runner over memories with anything in them, the section memory longer than the image wants
 abbrev pub unloaded : Runner

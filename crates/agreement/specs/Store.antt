@@ -2,7 +2,6 @@
 use Rattle.std.specs.Prelude.{ℕ, ◌+◌, ◌-◌, ◌*◌, Bool, cond, ◌&&◌, List, [], ◌∷◌, ◌++◌, map, length, ◌==◌, nat_le, slice_index}
 use Rattle.std.specs.List.{range_with_len}
 use Rattle.memory.specs.Contents.{Mem, word, words_from}
-use Rattle.hart.specs.declared.state.Hart.{Hart}
 use Rattle.hart.specs.declared.state.Core.{Core}
 use Rattle.agreement.specs.Pairs.{Pair, apart, between}
 use Rattle.agreement.specs.Board.{Board}

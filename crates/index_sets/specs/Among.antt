@@ -37,6 +37,13 @@ among_place (x ∷ xs) i e =
     (λ ne. let r = among_place xs i (sym (among_tail xs x i ne) ∙ e) in (suc r.0, (omega (arith, r.1)), r.2))
     (cases_eq i x)
 
+-- if the first n of a row lie below 16,384, so does all that is among them
+pub among_small : (xs : List ℕ) (n k : ℕ) → ((j : ℕ) → j < n → slice_index xs j < 16384) → among (take n xs) k ≡ true → k < 16384
+among_small xs n k small e =
+    let p = among_place (take n xs) k e in
+    let l : p.0 < n = omega (arith, p.1, length-take n xs) in
+    omega (arith, small p.0 l, p.2, get_or-take n xs p.0 0 l)
+
 among_push_at : (xs : List ℕ) (i k : ℕ) → among (xs ++ i ∷ []) k ≡ joined (among xs) i k
 among_push_at [] i k = refl
 among_push_at (x ∷ xs) i k = let h = among_push_at xs i k in grind (arith, nat_tests)

@@ -3,9 +3,7 @@ ghost use Rattle.std.specs.Prelude.{◌≡◌, ℕ, ◌<◌, ◌≤◌, false, t
 ghost use Rattle.index_sets.specs.Refusals.{Refused};
 ghost use Rattle.index_sets.specs.Finding.{Found};
 ghost use Rattle.index_sets.specs.Sets.{among, none, Took};
-ghost use Rattle.std.proofs.Common.{arith};
-ghost use Rattle.std.proofs.lemmas.List.{get_or-take, length-take};
-ghost use Rattle.index_sets.specs.Among.{among_place};
+ghost use Rattle.index_sets.specs.Among.{among_small};
 
 use crate::entries::find;
 use crate::{IndexSet, MOST_INDEXES, Refusal};
@@ -45,10 +43,7 @@ impl Table {
 impl IndexSet for Table {
     ghost member = { λ s. among (take s.len s.items) };
 
-    ghost below = { λ s k e.
-        let p = among_place (take s.len s.items) k e in
-        let l : p.0 < s.len = omega (arith, p.1, length-take s.len s.items) in
-        omega (arith, s.small p.0 l, p.2, get_or-take s.len s.items p.0 0 l) };
+    ghost below = { λ s k e. among_small s.items s.len k s.small e };
 
     fn has(&self, index: usize) -> bool {
         match self.place(index) {

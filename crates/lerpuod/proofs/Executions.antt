@@ -1,9 +1,8 @@
 -- An image's outcome, from what the machine leaves in the program's memories.
-use Rattle.std.proofs.Common.{◌≡◌, ℕ, ◌≤◌, List, ◌++◌, length, take, drop, Some, None, Option, sym, refl, ap, ◌∙◌, subst, arith, length-take-le, take_all}
+use Rattle.std.proofs.Common.{◌≡◌, ℕ, List, ◌++◌, length, take, drop, Option, sym, ap, ◌∙◌, arith, length-take-le, take_all}
 use lib.Seq.{take-append_seam}
 use Rattle.memory.proofs.Contents.{length_words}
 use Rattle.image.specs.Questions.{No}
-use Rattle.image.specs.Image.{header}
 use Rattle.hart.specs.declared.state.Core.{Core}
 use Rattle.machine.specs.Run.{run_end, run_outputs}
 use Rattle.machine.specs.Refusals.{load_refusal}

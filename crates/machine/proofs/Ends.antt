@@ -1,23 +1,19 @@
 -- A run ends: each step stops or counts one instruction, and at the limit it stops.
-use Rattle.std.proofs.Common.{◌≡◌, ℕ, zero, suc, ◌+◌, ◌/◌, ◌<◌, ◌≤◌, Bool, true, false, ltb, leb, ◌⊎◌, sym, refl, ap, ◌∙◌, subst, inl, inr, ⊎_elim, arith}
-use Rattle.std.proofs.lemmas.Bool.{le-leb}
+use Rattle.std.proofs.Common.{◌≡◌, ℕ, zero, suc, ◌+◌, ◌/◌, ◌<◌, ◌≤◌, Bool, true, false, ltb, ◌⊎◌, sym, refl, ap, ◌∙◌, subst, inl, inr, ⊎_elim, arith}
 use Rattle.memory.specs.Contents.{Mem}
 use Rattle.rv32i.specs.declared.instruction.LoadKind.{LoadKind}
-use Rattle.hart.specs.State.{started}
 use Rattle.hart.specs.Stops.{number}
 use Rattle.hart.specs.Plan.{plan}
 use Rattle.hart.specs.declared.state.Hart.{Hart}
-use Rattle.hart.specs.declared.state.Core.{Core}
 use Rattle.hart.specs.declared.action.Stop.{Stop}
 use Rattle.hart.specs.declared.action.Stop.TheVariants as stops
 use Rattle.hart.specs.declared.action.Action.{Action}
 use Rattle.hart.specs.declared.action.Action.TheVariants.{Halt, Next, Load, Store, Output}
 use Rattle.hart.specs.declared.action.Limits.{Limits}
 use Rattle.hart.proofs.Plans.{Within, within_plan}
-use Rattle.image.specs.Image.{header}
 use Rattle.machine.specs.Processor.{Effect, stop, quiet, load, store, emit, stop_number, Processor, State, enact, doing, step, after}
 use Rattle.machine.specs.Rv32i.{loading, effect, rv32i}
-use Rattle.machine.specs.Run.{ended, limits, run_start, run_end, run_stop, run_count, Ends, RunsEnd}
+use Rattle.machine.specs.Run.{ended, limits, run_start, run_end, run_stop, RunsEnd}
 
 pub number_bounds : (z : Stop) → (0 < number z) × (number z ≤ 10)
 number_bounds stops.Limit = (omega arith, omega arith)

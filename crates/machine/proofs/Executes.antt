@@ -1,5 +1,5 @@
 -- A loaded machine that ran to its end has executed its image.
-use Rattle.std.proofs.Common.{◌≡◌, ℕ, ◌<◌, ◌≤◌, List, length, None, Result, sym, refl, ap, ◌∙◌, subst, arith}
+use Rattle.std.proofs.Common.{◌≡◌, ℕ, ◌≤◌, List, length, None, Result, sym, refl, ◌∙◌, subst, arith}
 use Rattle.memory.specs.Contents.{word}
 use Rattle.memory.proofs.Contents.{fronted, fronted_low, fronted_high, fronted_length}
 use Rattle.hart.specs.State.{started}

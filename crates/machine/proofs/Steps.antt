@@ -1,13 +1,11 @@
 -- A planned action, carried out on a core, a memory and a log, is a step of the machine that these are.
-use Rattle.std.proofs.Common.{◌≡◌, ℕ, ◌+◌, ◌-◌, ◌/◌, ◌^◌, ◌<◌, ◌≤◌, min, Bool, true, false, ltb, List, length, set, Some, None, sym, refl, ap, ◌∙◌, subst, arith, length-set}
+use Rattle.std.proofs.Common.{◌≡◌, ℕ, ◌+◌, ◌/◌, ◌^◌, ◌<◌, ◌≤◌, Bool, true, false, ltb, List, length, set, Some, None, sym, refl, ap, ◌∙◌, subst, arith, length-set}
 use Rattle.memory.specs.Contents.{Mem, word, put}
 use Rattle.memory.specs.Lanes.{merged}
 use Rattle.memory.proofs.Contents.{word_set}
 use Rattle.rv32i.specs.declared.instruction.LoadKind.{LoadKind}
-use Rattle.hart.specs.Alu.{loaded}
 use Rattle.hart.specs.State as hart
 use Rattle.hart.specs.State.{next, next_sent, moved, onward, counted, retired, retired_load, retired_output}
-use Rattle.hart.specs.Stops.{number}
 use Rattle.hart.specs.Plan.{plan}
 use Rattle.hart.specs.declared.state.Hart.{Hart}
 use Rattle.hart.specs.declared.state.Core.{Core}
@@ -16,7 +14,7 @@ use Rattle.hart.specs.declared.action.Action.{Action}
 use Rattle.hart.specs.declared.action.Action.TheVariants.{Halt, Next, Load, Store, Output}
 use Rattle.hart.specs.declared.action.Limits.{Limits}
 use Rattle.hart.proofs.Plans.{Within, within_plan}
-use Rattle.machine.specs.Processor.{Effect, stop_number, State, enact, doing, step}
+use Rattle.machine.specs.Processor.{stop_number, State, enact, doing, step}
 use Rattle.machine.specs.Rv32i.{loaded_into, loading, effect, rv32i}
 use Rattle.machine.specs.Calls.{state_of, Fits, Advanced}
 

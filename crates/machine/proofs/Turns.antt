@@ -1,13 +1,13 @@
 -- The turns of the loop that steps a machine to its end.
-use Rattle.std.proofs.Common.{◌≡◌, ℕ, ◌+◌, ◌-◌, ◌<◌, ◌≤◌, List, length, Some, None, Option, sym, refl, ap, ◌∙◌, ⊎_elim, arith}
+use Rattle.std.proofs.Common.{◌≡◌, ℕ, ◌-◌, ◌<◌, List, length, Some, None, Option, sym, ap, ◌∙◌, ⊎_elim, arith}
 use Rattle.hart.specs.Stops.{number}
 use Rattle.hart.specs.declared.state.Core.{Core}
 use Rattle.hart.specs.declared.action.Stop.{Stop}
 use Rattle.hart.specs.declared.action.Limits.{Limits}
-use Rattle.machine.specs.Processor.{Effect, stop, stop_number, State, doing, step}
+use Rattle.machine.specs.Processor.{stop, stop_number, State, doing, step}
 use Rattle.machine.specs.Rv32i.{rv32i}
 use Rattle.machine.specs.Run.{ended}
-use Rattle.machine.specs.Calls.{state_of, Fits, Advanced, Finished}
+use Rattle.machine.specs.Calls.{state_of, Advanced, Finished}
 use Rattle.machine.proofs.Ends.{goes, stays, ran_on, ended_step, ended_here, stop_told, number_bounds}
 
 module _ (lim : Limits) (c : Core) (ws log : List ℕ) (c' : Core) (ws' log' : List ℕ) where

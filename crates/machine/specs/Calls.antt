@@ -14,7 +14,7 @@ use Rattle.machine.specs.declared.End.{End}
 use Rattle.machine.specs.Refusals.{as_no, load_refusal}
 use Rattle.machine.specs.Processor.{stop_number, State, doing, step}
 use Rattle.machine.specs.Rv32i.{rv32i}
-use Rattle.machine.specs.Run.{limits_of, ended, limits, run_end, run_stop, run_outputs, run_words}
+use Rattle.machine.specs.Run.{ended, limits, run_end, run_stop, run_outputs, run_words}
 
 -- the machine that a core, a memory and a log are
 abbrev pub state_of : Core → List ℕ → List ℕ → State

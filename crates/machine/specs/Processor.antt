@@ -1,5 +1,5 @@
 -- The uninterrupted machine, over any processor.
-use Rattle.std.specs.Prelude.{ℕ, zero, suc, List}
+use Rattle.std.specs.Prelude.{ℕ, zero, suc}
 use Rattle.memory.specs.Contents.{Mem, put}
 use Rattle.memory.specs.Lanes.{merged}
 use Rattle.hart.specs.declared.state.Hart.{Hart}

@@ -1,11 +1,11 @@
 -- The uninterrupted run of an image: its start, its end, and what it leaves there.
 use Rattle.std.specs.Prelude.{◌≡◌, ℕ, ◌<◌, ◌≤◌, List}
-use Rattle.memory.specs.Contents.{Mem, word, words_from}
+use Rattle.memory.specs.Contents.{word, words_from}
 use Rattle.image.specs.Image.{header, given_words}
 use Rattle.image.specs.declared.header.Header.{Header}
 use Rattle.hart.specs.State.{started}
 use Rattle.hart.specs.declared.action.Limits.{Limits}
-use Rattle.machine.specs.Processor.{Effect, stop, stop_number, Processor, State, doing, after}
+use Rattle.machine.specs.Processor.{stop, stop_number, State, doing, after}
 use Rattle.machine.specs.Rv32i.{rv32i}
 
 -- the limits in an image's header

@@ -7,7 +7,6 @@ use Rattle.hart.specs.State.{after, moved, onward}
 use Rattle.hart.specs.Stops.{number}
 use Rattle.hart.specs.Plan.{plan}
 use Rattle.hart.specs.declared.state.Hart.{Hart}
-use Rattle.hart.specs.declared.state.Core.{Core}
 use Rattle.hart.specs.declared.action.Action.{Action}
 use Rattle.hart.specs.declared.action.Action.TheVariants.{Halt, Next, Load, Store, Output}
 use Rattle.hart.specs.declared.action.Limits.{Limits}

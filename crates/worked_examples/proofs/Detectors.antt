@@ -6,8 +6,7 @@ use Rattle.index_sets.specs.declared.Refusal.{Refusal as SetRefusal}
 use Rattle.section.specs.declared.Refusal.{Refusal}
 use Rattle.section.specs.Refusals.{Refused}
 use Rattle.section.specs.View.{View, fresh}
-use Rattle.section.specs.Calls.{known, with_read, Entered, Read, Write, Stored}
-use Rattle.section.specs.Detecting.{DetectedWrite}
+use Rattle.section.specs.Calls.{known, with_read, Entered, Stored}
 use Rattle.worked_examples.specs.Examples.{DetectorRead, DetectorWrite}
 
 -- while R is empty an index enters it

@@ -1,5 +1,5 @@
 -- The worked examples: those at numbers are computed, the others rewritten with what is known of the machine.
-use Rattle.std.proofs.Common.{◌≡◌, ℕ, ◌+◌, ◌-◌, ◌*◌, ◌/◌, ◌%◌, ◌<◌, true, false, eqb, leb, refl, arith}
+use Rattle.std.proofs.Common.{◌≡◌, ◌-◌, ◌*◌, ◌/◌, ◌%◌, true, false, eqb, leb, refl, arith}
 use Rattle.std.proofs.lemmas.Bool.{ne_eqb, lt-leb, le-leb}
 use Rattle.std.proofs.lemmas.List.{get_or-set_same}
 use Rattle.memory.specs.Contents.{put}
@@ -8,7 +8,7 @@ use Rattle.image.specs.Image.{header, given_words, between, addresses, header_qu
 use Rattle.machine.specs.Processor.{step, after}
 use Rattle.machine.specs.Rv32i.{rv32i}
 use Rattle.machine.specs.Run.{run_end}
-use Rattle.worked_examples.specs.Examples.{At, WorkedExamples}
+use Rattle.worked_examples.specs.Examples.{WorkedExamples}
 use Rattle.worked_examples.proofs.Detectors.{read_write, write_read_write, byte_read_write}
 
 pub worked_examples : WorkedExamples

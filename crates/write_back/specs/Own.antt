@@ -1,5 +1,5 @@
 -- The write-back layer's own pairs: the first ones of a row.
-use Rattle.std.specs.Prelude.{◌≡◌, ℕ, ◌<◌, ◌≤◌, Bool, true, false, cond, List, [], ◌∷◌, map, length, take, Some, None, Option, slice_index_or}
+use Rattle.std.specs.Prelude.{◌≡◌, ℕ, ◌<◌, ◌≤◌, Bool, true, false, List, map, length, take, Some, None, Option, slice_index_or}
 use Rattle.memory.specs.Lanes.{merged}
 use Rattle.write_back.specs.declared.pair.Pair.{Pair}
 use Rattle.section.specs.View.{held, replaced}

@@ -1,4 +1,4 @@
-use Rattle.std.proofs.Common.{◌≡◌, ℕ, length, take, vec_items, vec_len, ◌∙◌}
+use Rattle.std.proofs.Common.{◌≡◌, length, take, vec_items, vec_len, ◌∙◌}
 use Rattle.std.proofs.lemmas.Result.{IfOk-from_err}
 use Rattle.machine.proofs.Loading.{no_image}
 use Rattle.lerpuod.proofs.Executions.{over, outputs_left}

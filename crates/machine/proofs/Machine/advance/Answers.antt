@@ -1,5 +1,4 @@
-use Rattle.std.proofs.Common.{◌≡◌, ◌^◌, ◌<◌, set, refl, ap, ◌∙◌, arith}
-use Rattle.memory.specs.Contents.{word}
+use Rattle.std.proofs.Common.{set, refl, ap, ◌∙◌}
 use Rattle.memory.specs.Lanes.{merged}
 use Rattle.hart.specs.Plan.{plan}
 use Rattle.hart.specs.State.{retired_load}

@@ -1,4 +1,4 @@
-use Rattle.std.proofs.Common.{◌≡◌, ◌-◌, ◌<◌, ◌≤◌, Some, None, sym, refl, ap, ◌∙◌, subst, arith}
+use Rattle.std.proofs.Common.{◌≡◌, ◌-◌, ◌<◌, Some, None, sym, ap, ◌∙◌, subst, arith}
 use Rattle.hart.specs.declared.action.Limits.{Limits}
 use Rattle.machine.specs.Calls.{Advanced}
 use Rattle.machine.proofs.Turns.{ends_alike, fewer_left, stops_there, finished_from}

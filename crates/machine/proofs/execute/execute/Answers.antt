@@ -1,11 +1,7 @@
-use Rattle.std.proofs.Common.{◌≡◌, ℕ, ◌≤◌, List, length, sym, refl, ap, ◌∙◌, subst, arith}
+use Rattle.std.proofs.Common.{refl, ◌∙◌}
 use Rattle.std.proofs.lemmas.Result.{err_from_is_err_and}
-use Rattle.hart.specs.declared.state.Core.{Core}
-use Rattle.machine.specs.Run.{limits}
-use Rattle.machine.specs.Calls.{Fits, Finished, with_image}
-use Rattle.machine.specs.declared.Machine.{Machine}
 use Rattle.machine.proofs.Ends.{runs_end}
-use Rattle.machine.proofs.Executes.{fits, image_length, executed, ran_image, fits_image}
+use Rattle.machine.proofs.Executes.{ran_image, fits_image}
 use Rattle.machine.proofs.execute.execute.Goals as goal
 
 pub returns-in_err-machine : goal.returns-in_err-machine

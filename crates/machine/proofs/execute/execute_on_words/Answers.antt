@@ -1,4 +1,4 @@
-use Rattle.std.proofs.Common.{◌≡◌, ℕ, List, ◌∷◌, take, drop, sym, ap, ◌∙◌, rules}
+use Rattle.std.proofs.Common.{◌≡◌, ℕ, List, ◌∷◌, rules}
 use Rattle.machine.proofs.Executes.{execute_alike}
 use Rattle.machine.proofs.execute.execute_on_words.Goals as goal
 

@@ -1,6 +1,6 @@
 use Rattle.std.proofs.Common.{◌∙◌, arith}
 use Rattle.machine.specs.Calls.{whole_words}
-use Rattle.machine.proofs.Fills.{filled_none, filled_more}
+use Rattle.machine.proofs.Fills.{filled_more}
 use Rattle.machine.proofs.load.put_words.Goals as goal
 
 pub loop-i-preserved : goal.loop-i-preserved
