@@ -1,7 +1,7 @@
 -- What holds of every action that is planned: it is planned below the limit, and stays within the memory and the outputs.
+use Rattle.std.specs.Prelude.{if◌then◌else◌}
 use Rattle.std.proofs.Common.{◌≡◌, ℕ, ◌+◌, ◌*◌, ◌/◌, ◌%◌, ◌<◌, ◌≤◌, Bool, true, false, not, ◌&&◌, eqb, ltb, leb, Ok, Err, refl, ap, arith}
 use Rattle.std.proofs.lemmas.Bool.{leb-false, ltb-false}
-use Rattle.rv32i.specs.If.{if◌then◌else◌}
 use Rattle.rv32i.specs.Decode.{Decoded, decode}
 use Rattle.rv32i.specs.declared.instruction.LoadKind.{LoadKind}
 use Rattle.rv32i.specs.declared.instruction.StoreKind.{StoreKind}

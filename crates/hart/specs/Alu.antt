@@ -1,6 +1,5 @@
 -- What the operations of RV32I give, on words as numbers below 2 ^ 32.
-use Rattle.std.specs.Prelude.{ℕ, ◌+◌, ◌-◌, ◌*◌, ◌/◌, ◌%◌, ◌^◌, Bool, not, ◌==◌, bit_and, bit_or, bit_xor, nat_lt}
-use Rattle.rv32i.specs.If.{if◌then◌else◌}
+use Rattle.std.specs.Prelude.{ℕ, ◌+◌, ◌-◌, ◌*◌, ◌/◌, ◌%◌, ◌^◌, Bool, not, ◌==◌, bit_and, bit_or, bit_xor, nat_lt, if◌then◌else◌}
 use Rattle.rv32i.specs.Fields.{sign_extend}
 use Rattle.rv32i.specs.declared.instruction.Condition.{Condition}
 use Rattle.rv32i.specs.declared.instruction.Condition.TheVariants.{Eq, Ne, Lt, Ge, Ltu, Geu}

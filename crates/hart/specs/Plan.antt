@@ -1,6 +1,5 @@
 -- What the next instruction does, or why the machine stops: of the image's limits, the core and the word at pc.
-use Rattle.std.specs.Prelude.{ℕ, ◌+◌, ◌*◌, ◌/◌, ◌%◌, Bool, not, ◌&&◌, Ok, Err, ◌==◌, nat_le, nat_lt}
-use Rattle.rv32i.specs.If.{if◌then◌else◌}
+use Rattle.std.specs.Prelude.{ℕ, ◌+◌, ◌*◌, ◌/◌, ◌%◌, Bool, not, ◌&&◌, Ok, Err, ◌==◌, nat_le, nat_lt, if◌then◌else◌}
 use Rattle.rv32i.specs.Decode.{Decoded, decode}
 use Rattle.rv32i.specs.declared.instruction.LoadKind.{LoadKind}
 use Rattle.rv32i.specs.declared.instruction.StoreKind.{StoreKind}

@@ -1,6 +1,5 @@
 -- The registers x1 to x31 are a list; register 0 reads 0 and drops what is written to it.
-use Rattle.std.specs.Prelude.{ℕ, ◌-◌, List, ◌==◌, slice_index, slice_set}
-use Rattle.rv32i.specs.If.{if◌then◌else◌}
+use Rattle.std.specs.Prelude.{ℕ, ◌-◌, List, ◌==◌, slice_index, slice_set, if◌then◌else◌}
 
 -- the value of register r
 abbrev pub reg : List ℕ → ℕ → ℕ

@@ -1,6 +1,5 @@
 -- Which words are instructions, and which. By opcode, funct3 and funct7, as in the tables of the RISC-V manual.
-use Rattle.std.specs.Prelude.{ℕ, ◌&&◌, Ok, Err, Result, ◌==◌}
-use Rattle.rv32i.specs.If.{if◌then◌else◌}
+use Rattle.std.specs.Prelude.{ℕ, ◌&&◌, Ok, Err, Result, ◌==◌, if◌then◌else◌}
 use Rattle.rv32i.specs.Fields.{opcode, rd, funct3, rs1, rs2, funct7, imm_i, imm_s, imm_b, imm_u, imm_j}
 use Rattle.rv32i.specs.declared.instruction.Condition.{Condition}
 use Rattle.rv32i.specs.declared.instruction.Condition.TheVariants.{Eq, Ne, Lt, Ge, Ltu, Geu}

@@ -1,4 +1,3 @@
-pub mod If
 pub mod Refusals
 pub mod Fields
 pub mod Decode
