@@ -16,12 +16,7 @@ GENERATED = "// Written by tests/rv32i/make_table.py, and not edited by hand.\n"
 
 TABLE = """\
 // Instructions that qemu-riscv32 ran, each once: the registers and the memory before and after.
-use crate::rows::Branched;
-use crate::rows::Computed;
-use crate::rows::Linked;
-use crate::rows::Loaded;
-use crate::rows::Stored;
-use crate::rows::X;
+use crate::rows::{{Branched, Computed, Linked, Loaded, Stored, X}};
 
 /// The word in every register and every word of memory that a row does not name.
 pub const IDLE: u32 = {idle};
@@ -39,11 +34,7 @@ pub const WORDS: usize = {words};
 WORDS_TABLE = """\
 // Words and what they are: encoded by the GNU assembler, decoded by the specification.
 use crate::rows::Decoded;
-use rv32i::instruction::Condition;
-use rv32i::instruction::Instruction;
-use rv32i::instruction::LoadKind;
-use rv32i::instruction::Operation;
-use rv32i::instruction::StoreKind;
+use rv32i::instruction::{Condition, Instruction, LoadKind, Operation, StoreKind};
 """
 
 

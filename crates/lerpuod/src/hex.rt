@@ -8,7 +8,7 @@ use std::fmt;
 #[derive(Clone, Copy)]
 pub struct Hex(pub u32);
 
-// Digit by digit, so that `shown` says what is printed: no clause speaks of `{:08x}`.
+// Digit by digit, so that `output` says which bytes are printed.
 impl fmt::Display for Hex {
     ghost output = { λ w. Some (hex w.0) };
 
