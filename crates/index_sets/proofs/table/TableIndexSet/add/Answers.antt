@@ -1,6 +1,6 @@
 use Rattle.std.proofs.Common.{◌<◌, length, get_or, take, sym, refl, arith}
 use Rattle.std.proofs.lemmas.List.{length-take}
-use Rattle.index_sets.specs.Among.{among_at, small_push, apart_push, among_more}
+use Rattle.index_sets.proofs.Among.{among_at, small_push, apart_push, among_more}
 use Rattle.index_sets.proofs.table.TableIndexSet.add.Goals as goal
 
 pub returns-then-len-ge-ROOM : goal.returns-then-len-ge-ROOM

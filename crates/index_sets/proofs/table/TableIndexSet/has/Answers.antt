@@ -1,5 +1,5 @@
 use Rattle.std.proofs.Common.{sym}
-use Rattle.index_sets.specs.Among.{among_at, among_none}
+use Rattle.index_sets.proofs.Among.{among_at, among_none}
 use Rattle.index_sets.proofs.table.TableIndexSet.has.Goals as goal
 
 pub returns-in-Some : goal.returns-in-Some
