@@ -64,12 +64,12 @@ impl Board {
         what: &impl fmt::Display,
         answer: Option<Stop>,
         after: Board,
-    ) -> Result<(), Fail> {
+    ) {
         let mut machine = self.machine;
         let mut cells = self.cells;
         let mut log = self.log;
-        let stop = machine.step(&mut WordBank::new(&mut cells), &mut WordBank::new(&mut log))?;
-        assert_eq!(rt; stop, answer, "{what}");
+        let stop = machine.step(&mut WordBank::new(&mut cells), &mut WordBank::new(&mut log));
+        assert_eq!(rt; stop, Ok(answer), "{what}");
         let left = machine.core.hart;
         let wanted = after.machine.core.hart;
         assert_eq!(rt; left.pc, wanted.pc, "{what}: pc");
@@ -79,6 +79,5 @@ impl Board {
         assert_eq!(rt; machine, after.machine, "{what}");
         assert!(rt; cells == after.cells, "{what}: memory");
         assert_eq!(rt; log, after.log, "{what}: log");
-        Ok(())
     }
 }

@@ -26,68 +26,62 @@ fn start(pc: u32, word: u32, before: [X; 2]) -> Board {
     board
 }
 
-fn compute(rt: &impl Abort, row: &Computed) -> Result<(), Fail> {
+fn compute(rt: &impl Abort, row: &Computed) {
     let Computed(text, word, before, written) = *row;
     let board = start(START, word, before);
-    board.expect(rt, &text, None, board.retired(NEXT, written))
+    board.expect(rt, &text, None, board.retired(NEXT, written));
 }
 
 #[test]
-fn operations(rt: HostRuntime) -> Result<(), Fail> {
+fn operations(rt: HostRuntime) {
     for row in &OPERATIONS {
-        compute(&rt, row)?;
+        compute(&rt, row);
     }
-    Ok(())
 }
 
 #[test]
-fn immediates(rt: HostRuntime) -> Result<(), Fail> {
+fn immediates(rt: HostRuntime) {
     for row in &IMMEDIATES {
-        compute(&rt, row)?;
+        compute(&rt, row);
     }
-    Ok(())
 }
 
 #[test]
-fn relatives(rt: HostRuntime) -> Result<(), Fail> {
+fn relatives(rt: HostRuntime) {
     for row in &RELATIVES {
         let Linked(text, word, pc, before, next, written) = *row;
         let board = start(pc, word, [before, NONE]);
-        board.expect(&rt, &text, None, board.retired(next, written))?;
+        board.expect(&rt, &text, None, board.retired(next, written));
     }
-    Ok(())
 }
 
 #[test]
-fn branches(rt: HostRuntime) -> Result<(), Fail> {
+fn branches(rt: HostRuntime) {
     for row in &BRANCHES {
         let Branched(text, word, before, next) = *row;
         let board = start(START, word, before);
-        board.expect(&rt, &text, None, board.retired(next, NONE))?;
+        board.expect(&rt, &text, None, board.retired(next, NONE));
     }
-    Ok(())
 }
 
 #[test]
-fn loads(rt: HostRuntime) -> Result<(), Fail> {
+fn loads(rt: HostRuntime) {
     for row in &LOADS {
         let Loaded(text, word, before, cell, written) = *row;
         let mut board = start(START, word, [before, NONE]);
         board.cells[CELL] = cell;
-        board.expect(&rt, &text, None, board.retired(NEXT, written))?;
+        board.expect(&rt, &text, None, board.retired(NEXT, written));
     }
-    Ok(())
 }
 
 #[test]
-fn stores(rt: HostRuntime) -> Result<(), Fail> {
+fn stores(rt: HostRuntime) {
     for row in &STORES {
         let Stored(text, word, before, cell, cell_after) = *row;
         let mut board = start(START, word, before);
         board.cells[CELL] = cell;
         let mut after = board.retired(NEXT, NONE);
         after.cells[CELL] = cell_after;
-        board.expect(&rt, &text, None, after)?;
+        board.expect(&rt, &text, None, after);
     }
-    Ok(())
 }

@@ -6,67 +6,63 @@ use hart::action::Stop;
 use std::test::*;
 
 #[test]
-fn stops_change_nothing(rt: HostRuntime) -> Result<(), Fail> {
+fn stops_change_nothing(rt: HostRuntime) {
     for Stopped(state, stop) in &STOPS {
         let board = state.board();
-        board.expect(&rt, &format_args!("{state:?}"), Some(*stop), board)?;
+        board.expect(&rt, &format_args!("{state:?}"), Some(*stop), board);
     }
-    Ok(())
 }
 
 #[test]
-fn near_a_stop(rt: HostRuntime) -> Result<(), Fail> {
+fn near_a_stop(rt: HostRuntime) {
     for Passed(state, pc, register) in &PASSES {
         let board = state.board();
         let after = board.retired(*pc, *register);
-        board.expect(&rt, &format_args!("{state:?}"), None, after)?;
+        board.expect(&rt, &format_args!("{state:?}"), None, after);
     }
-    Ok(())
 }
 
 #[test]
-fn stops_at_the_next_step(rt: HostRuntime) -> Result<(), Fail> {
+fn stops_at_the_next_step(rt: HostRuntime) {
     for Last(state, pc, register, stop) in &LASTS {
         let board = state.board();
         let after = board.retired(*pc, *register);
-        board.expect(&rt, &format_args!("{state:?}"), None, after)?;
-        after.expect(&rt, &format_args!("{state:?}"), Some(*stop), after)?;
+        board.expect(&rt, &format_args!("{state:?}"), None, after);
+        after.expect(&rt, &format_args!("{state:?}"), Some(*stop), after);
     }
-    Ok(())
 }
 
 #[test]
-fn stores_at_the_ends(rt: HostRuntime) -> Result<(), Fail> {
+fn stores_at_the_ends(rt: HostRuntime) {
     for Wrote(state, index, word) in &WRITES {
         let board = state.board();
         let mut after = board.retired(4, NONE);
         if *index < WORDS {
             after.cells[*index] = *word;
         }
-        board.expect(&rt, &format_args!("{state:?}"), None, after)?;
+        board.expect(&rt, &format_args!("{state:?}"), None, after);
     }
-    Ok(())
 }
 
 // The same output three times, where two are allowed.
 #[test]
-fn outputs(rt: HostRuntime) -> Result<(), Fail> {
+fn outputs(rt: HostRuntime) {
     let none = OUTPUT.board();
     let mut one = none.retired(4, NONE);
     one.machine.core.sent = 1;
     one.log = [VALUE, IDLE];
-    none.expect(&rt, &"the first output", None, one)?;
+    none.expect(&rt, &"the first output", None, one);
     one.machine.core.hart.pc = 0;
     let mut two = one.retired(4, NONE);
     two.machine.core.sent = 2;
     two.log = [VALUE, VALUE];
-    one.expect(&rt, &"the second output", None, two)?;
+    one.expect(&rt, &"the second output", None, two);
     two.machine.core.hart.pc = 0;
-    two.expect(&rt, &"the third output", Some(Stop::OutputsFull), two)
+    two.expect(&rt, &"the third output", Some(Stop::OutputsFull), two);
 }
 
 #[test]
-fn numbers(rt: HostRuntime) -> Result<(), Fail> {
+fn numbers(rt: HostRuntime) {
     let stops = [
         Stop::Limit,
         Stop::PastText,
@@ -84,5 +80,4 @@ fn numbers(rt: HostRuntime) -> Result<(), Fail> {
         number = number.saturating_add(1);
         assert_eq!(rt; stop.number(), number);
     }
-    Ok(())
 }
