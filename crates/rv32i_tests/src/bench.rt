@@ -7,7 +7,6 @@ use machine::Machine;
 use memory::word_bank::WordBank;
 use std::fmt;
 use std::process::Abort;
-use std::test::*;
 
 /// The words of the log.
 pub const OUTPUTS: usize = 2;
@@ -22,7 +21,7 @@ pub struct Board {
 
 impl Board {
     /// A board with a word at pc; all else is idle.
-    pub fn new(limits: Limits, pc: u32, word: u32) -> Board {
+    pub(crate) fn new(limits: Limits, pc: u32, word: u32) -> Board {
         let hart = Hart { x: [IDLE; 31], pc };
         let core = Core {
             hart,
@@ -42,7 +41,7 @@ impl Board {
     }
 
     /// Puts a word into its register; x0 has no place.
-    pub fn set(&mut self, X(number, word): X) {
+    pub(crate) fn set(&mut self, X(number, word): X) {
         let r = usize::from(number);
         if r > 0 && r < 32 {
             self.machine.core.hart.x[r - 1] = word;
@@ -50,7 +49,7 @@ impl Board {
     }
 
     /// The same after one instruction more, which writes a register and goes to `pc`.
-    pub fn retired(mut self, pc: u32, written: X) -> Board {
+    pub(crate) fn retired(mut self, pc: u32, written: X) -> Board {
         self.set(written);
         self.machine.core.hart.pc = pc;
         self.machine.core.ran = self.machine.core.ran.saturating_add(1);
@@ -58,7 +57,7 @@ impl Board {
     }
 
     /// One step answers `answer`, and leaves `after`; `what` names the row in a failure.
-    pub fn expect(
+    pub(crate) fn expect(
         self,
         rt: &impl Abort,
         what: &impl fmt::Display,

@@ -6,7 +6,6 @@ use crate::table::{
 };
 use hart::action::Limits;
 use std::process::Abort;
-use std::test::*;
 
 /// Where an instruction goes on that does not jump.
 const NEXT: u32 = START + 4;

@@ -77,7 +77,7 @@ pub struct State {
 }
 
 impl State {
-    pub fn board(&self) -> Board {
+    pub(crate) fn board(&self) -> Board {
         let limits = Limits {
             text: TEXT,
             words: self.words,

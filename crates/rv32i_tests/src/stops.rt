@@ -3,7 +3,6 @@ use crate::rows::NONE;
 use crate::states::{LASTS, Last, OUTPUT, PASSES, Passed, STOPS, Stopped, VALUE, WRITES, Wrote};
 use crate::table::{IDLE, WORDS};
 use hart::action::Stop;
-use std::test::*;
 
 #[test]
 fn stops_change_nothing(rt: HostRuntime) {

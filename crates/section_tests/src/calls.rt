@@ -30,7 +30,7 @@ impl Dice {
 }
 
 /// Makes the same calls of a pile and of its model. The pile has so many write-back layers.
-pub fn exercise<S: Section>(
+pub(crate) fn exercise<S: Section>(
     rt: &impl Abort,
     pile: &mut S,
     model: &mut Model,

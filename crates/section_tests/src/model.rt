@@ -26,7 +26,7 @@ pub struct Model {
 }
 
 impl Model {
-    pub fn new(most_reads: usize, most_writes: usize, layers: usize) -> Model {
+    pub(crate) fn new(most_reads: usize, most_writes: usize, layers: usize) -> Model {
         Model {
             words: [0; SIZE],
             read_first: [false; SIZE],
@@ -41,14 +41,14 @@ impl Model {
         }
     }
 
-    pub fn look(&self, index: usize) -> Answer<u32> {
+    pub(crate) fn look(&self, index: usize) -> Answer<u32> {
         if index >= SIZE {
             return Err(20);
         }
         Ok(self.words[index])
     }
 
-    pub fn put(&mut self, index: usize, word: u32) -> Answer<()> {
+    pub(crate) fn put(&mut self, index: usize, word: u32) -> Answer<()> {
         if index >= SIZE {
             return Err(20);
         }
@@ -57,7 +57,7 @@ impl Model {
         Ok(())
     }
 
-    pub fn read(&mut self, index: usize) -> Answer<u32> {
+    pub(crate) fn read(&mut self, index: usize) -> Answer<u32> {
         if index >= SIZE {
             return Err(20);
         }
@@ -73,7 +73,7 @@ impl Model {
         Ok(self.words[index])
     }
 
-    pub fn write(&mut self, index: usize, word: u32, lanes: u32) -> Answer<()> {
+    pub(crate) fn write(&mut self, index: usize, word: u32, lanes: u32) -> Answer<()> {
         if index >= SIZE {
             return Err(20);
         }
@@ -119,12 +119,12 @@ impl Model {
         n
     }
 
-    pub fn pair_count(&self) -> usize {
+    pub(crate) fn pair_count(&self) -> usize {
         SIZE - self.pairs_of(0).min(SIZE)
     }
 
     /// Pair `k`: lower layers first, and in each in order of entering.
-    pub fn pair(&self, k: usize) -> Answer<(u32, u32)> {
+    pub(crate) fn pair(&self, k: usize) -> Answer<(u32, u32)> {
         let mut index: u32 = 0;
         for i in 0..SIZE {
             if self.layer[i] > 0 && self.pairs_before(i) == k {
@@ -153,7 +153,7 @@ impl Model {
             || (self.layer[i] == self.layer[j] && self.entered[i] < self.entered[j])
     }
 
-    pub fn forget(&mut self) {
+    pub(crate) fn forget(&mut self) {
         self.read_first = [false; SIZE];
         self.write_first = [false; SIZE];
         self.layer = [0; SIZE];
