@@ -1,7 +1,6 @@
 // Random calls, made of a pile and of its model; every answer and all words are compared.
-use crate::model::{Answer, Model, SIZE};
+use crate::model::{Model, SIZE, Shape};
 use memory::Memory;
-use section::Refusal;
 use section::section::Section;
 use std::process::Abort;
 use std::test::Fail;
@@ -29,22 +28,22 @@ impl Dice {
     }
 }
 
-/// Makes the same calls of a pile and of its model. The pile has so many write-back layers.
+/// Makes the same calls of a pile and of its model.
 pub(crate) fn exercise<S: Section>(
     rt: &impl Abort,
     pile: &mut S,
-    model: &mut Model,
-    layers: usize,
+    shape: Shape,
     seed: u32,
 ) -> Result<(), Fail> {
     assert_eq!(rt; S::H, S::limit());
-    assert_eq!(rt; S::H, 8 * layers.min(8));
+    assert_eq!(rt; S::H, 8 * shape.layers.min(8));
     assert_eq!(rt; (*pile).size(), SIZE);
+    let mut model = Model::new(shape);
     let mut dice = Dice(seed);
     for _ in 0..CALLS {
-        call(rt, pile, model, &mut dice)?;
-        compare_pairs(rt, pile, model);
-        compare_words(rt, pile, model);
+        call(rt, pile, &mut model, &mut dice)?;
+        compare_pairs(rt, pile, &model);
+        compare_words(rt, pile, &model);
     }
     Ok(())
 }
@@ -59,20 +58,17 @@ fn call<S: Section>(
     let word = dice.roll();
     match dice.roll() % 64 {
         0..=29 => {
-            assert_eq!(rt; numbered(pile.read(index)), model.read(index));
+            assert_eq!(rt; pile.read(index), model.read(index));
             Ok(())
         },
         30..=44 => {
-            assert_eq!(rt;
-                numbered(pile.write(index, word, 15)),
-                model.write(index, word, 15)
-            );
+            assert_eq!(rt; pile.write(index, word, 15), model.write(index, word, 15));
             Ok(())
         },
         45..=60 => {
             let lanes = dice.roll() % 18;
             assert_eq!(rt;
-                numbered(pile.write(index, word, lanes)),
+                pile.write(index, word, lanes),
                 model.write(index, word, lanes)
             );
             Ok(())
@@ -95,7 +91,7 @@ fn call<S: Section>(
 fn compare_pairs<S: Section>(rt: &impl Abort, pile: &S, model: &Model) {
     assert_eq!(rt; pile.pair_count(), model.pair_count());
     for k in 0..SIZE {
-        assert_eq!(rt; numbered(pile.held(k)), model.pair(k));
+        assert_eq!(rt; pile.held(k), model.pair(k));
     }
 }
 
@@ -104,11 +100,4 @@ fn compare_words<S: Section>(rt: &impl Abort, pile: &S, model: &Model) {
         assert_eq!(rt; pile.look(i).unwrap_or(0), model.look(i).unwrap_or(1));
     }
     assert!(rt; pile.look(SIZE).is_err());
-}
-
-fn numbered<T>(answer: Result<T, Refusal>) -> Answer<T> {
-    match answer {
-        Ok(value) => Ok(value),
-        Err(refusal) => Err(refusal.number()),
-    }
 }

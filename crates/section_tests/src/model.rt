@@ -1,4 +1,7 @@
-// What a pile does, written plainly: one row for each thing that an index can have, and layers only by their numbers.
+// What a pile does, written plainly: a row of what each index has, and layers only by their numbers.
+ghost use Rattle.std.specs.Prelude.{◌<◌, IfOk};
+
+use section::Refusal;
 
 /// Words of the memory; few, so that sets and pairs fill up.
 pub const SIZE: usize = 40;
@@ -6,184 +9,188 @@ pub const SIZE: usize = 40;
 /// Pairs that one write-back layer holds.
 const ROOM: usize = 8;
 
-/// An answer, or the number of a refusal.
-pub type Answer<T> = Result<T, u32>;
+/// What a section memory answers.
+pub type Answer<T> = Result<T, Refusal>;
 
-/// A detector whose sets hold at most so many indexes, under so many write-back layers.
+/// The most indexes that the detector's sets hold, and the number of write-back layers over it.
+#[derive(Clone, Copy)]
+pub struct Shape {
+    pub most_reads: usize,
+    pub most_writes: usize,
+    pub layers: usize,
+}
+
+/// A word that a layer holds back. Layers are counted from 1.
+#[derive(Clone, Copy)]
+struct Held {
+    layer: usize,
+    entered: u32,
+    word: u32,
+}
+
+impl Held {
+    // Lower layers come first, and in each the pairs in order of entering.
+    fn comes_before(self, other: Held) -> bool {
+        (self.layer, self.entered) < (other.layer, other.entered)
+    }
+}
+
+/// What an index has.
+#[derive(Clone, Copy)]
+struct Row {
+    word: u32,
+    read_first: bool,
+    write_first: bool,
+    held: Option<Held>,
+}
+
+/// A detector under write-back layers.
 #[derive(Drop)]
 pub struct Model {
-    words: [u32; SIZE],
-    read_first: [bool; SIZE],
-    most_reads: usize,
-    write_first: [bool; SIZE],
-    most_writes: usize,
-    // the layer that holds an index, from 1, or 0; the word held; and when the pair entered
-    layer: [usize; SIZE],
-    held: [u32; SIZE],
-    entered: [u32; SIZE],
-    layers: usize,
+    shape: Shape,
+    rows: [Row; SIZE],
     clock: u32,
 }
 
 impl Model {
-    pub(crate) fn new(most_reads: usize, most_writes: usize, layers: usize) -> Model {
+    pub(crate) fn new(shape: Shape) -> Model {
+        let row = Row {
+            word: 0,
+            read_first: false,
+            write_first: false,
+            held: None,
+        };
         Model {
-            words: [0; SIZE],
-            read_first: [false; SIZE],
-            most_reads,
-            write_first: [false; SIZE],
-            most_writes,
-            layer: [0; SIZE],
-            held: [0; SIZE],
-            entered: [0; SIZE],
-            layers,
+            shape,
+            rows: [row; SIZE],
             clock: 0,
         }
     }
 
+    fn row(&self, index: usize) -> Answer<Row>
+        ensures { IfOk result (λ _. index < 40) }
+    {
+        self.rows.get(index).copied().ok_or(Refusal::OutOfRange)
+    }
+
     pub(crate) fn look(&self, index: usize) -> Answer<u32> {
-        if index >= SIZE {
-            return Err(20);
-        }
-        Ok(self.words[index])
+        Ok(self.row(index)?.word)
     }
 
     pub(crate) fn put(&mut self, index: usize, word: u32) -> Answer<()> {
-        if index >= SIZE {
-            return Err(20);
-        }
-        self.words[index] = word;
-        self.layer = [0; SIZE];
+        let row = self.row(index)?;
+        self.rows[index] = Row { word, ..row };
+        self.rows = self.rows.map(|row| Row { held: None, ..row });
         Ok(())
     }
 
     pub(crate) fn read(&mut self, index: usize) -> Answer<u32> {
-        if index >= SIZE {
-            return Err(20);
-        }
-        if !self.read_first[index] && !self.write_first[index] {
-            if count(&self.read_first) >= self.most_reads {
-                return Err(21);
+        let row = self.row(index)?;
+        if !row.read_first && !row.write_first {
+            if self.reads() >= self.shape.most_reads {
+                return Err(Refusal::Due);
             }
-            self.read_first[index] = true;
+            self.rows[index].read_first = true;
         }
-        if self.layer[index] > 0 {
-            return Ok(self.held[index]);
-        }
-        Ok(self.words[index])
+        Ok(row.held.map_or(row.word, |held| held.word))
     }
 
     pub(crate) fn write(&mut self, index: usize, word: u32, lanes: u32) -> Answer<()> {
-        if index >= SIZE {
-            return Err(20);
-        }
+        let row = self.row(index)?;
         if lanes < 1 || lanes > 15 {
-            return Err(23);
+            return Err(Refusal::Lanes);
         }
-        if self.layer[index] > 0 {
-            self.held[index] = mixed(self.held[index], word, lanes);
-            return Ok(());
-        }
-        let new = mixed(self.words[index], word, lanes);
-        if self.read_first[index] {
-            return self.hold(index, new);
-        }
-        self.words[index] = new;
-        if lanes == 15 && count(&self.write_first) < self.most_writes {
-            self.write_first[index] = true;
-        }
+        self.rows[index] = if let Some(held) = row.held {
+            let word = mixed(held.word, word, lanes);
+            Row {
+                held: Some(Held { word, ..held }),
+                ..row
+            }
+        } else if row.read_first {
+            let held = self.hold(mixed(row.word, word, lanes))?;
+            Row {
+                held: Some(held),
+                ..row
+            }
+        } else {
+            Row {
+                word: mixed(row.word, word, lanes),
+                write_first: row.write_first
+                    || lanes == 15 && self.writes() < self.shape.most_writes,
+                ..row
+            }
+        };
         Ok(())
     }
 
-    // The lowest layer that has room takes the pair.
-    fn hold(&mut self, index: usize, word: u32) -> Answer<()> {
-        for layer in 1..5 {
-            if index < SIZE && layer <= self.layers && self.pairs_of(layer) < ROOM {
-                self.layer[index] = layer;
-                self.held[index] = word;
-                self.entered[index] = self.clock;
-                self.clock = self.clock.wrapping_add(1);
-                return Ok(());
-            }
-        }
-        Err(21)
+    // The lowest layer that has room takes the word.
+    fn hold(&mut self, word: u32) -> Answer<Held> {
+        let layer = (1..=self.shape.layers)
+            .find(|layer| self.pairs_of(*layer) < ROOM)
+            .ok_or(Refusal::Due)?;
+        let entered = self.clock;
+        self.clock = entered.wrapping_add(1);
+        Ok(Held {
+            layer,
+            entered,
+            word,
+        })
+    }
+
+    fn reads(&self) -> usize {
+        self.rows.iter().filter(|row| row.read_first).count()
+    }
+
+    fn writes(&self) -> usize {
+        self.rows.iter().filter(|row| row.write_first).count()
     }
 
     fn pairs_of(&self, layer: usize) -> usize {
-        let mut n: usize = 0;
-        for i in 0..SIZE {
-            if self.layer[i] == layer {
-                n = n.saturating_add(1);
-            }
-        }
-        n
+        self.rows
+            .iter()
+            .filter(|row| row.held.is_some_and(|held| held.layer == layer))
+            .count()
     }
 
     pub(crate) fn pair_count(&self) -> usize {
-        SIZE - self.pairs_of(0).min(SIZE)
+        self.rows.iter().filter(|row| row.held.is_some()).count()
     }
 
-    /// Pair `k`: lower layers first, and in each in order of entering.
+    /// Pair `k`: the one that as many others come before.
     pub(crate) fn pair(&self, k: usize) -> Answer<(u32, u32)> {
-        let mut index: u32 = 0;
-        for i in 0..SIZE {
-            if self.layer[i] > 0 && self.pairs_before(i) == k {
-                return Ok((index, self.held[i]));
-            }
-            index = index.wrapping_add(1);
-        }
-        Err(24)
-    }
-
-    fn pairs_before(&self, index: usize) -> usize {
-        let mut n: usize = 0;
-        for i in 0..SIZE {
-            if self.layer[i] > 0 && index < SIZE && self.comes_before(i, index) {
-                n = n.saturating_add(1);
+        for (index, row) in (0..).zip(self.rows) {
+            if let Some(held) = row.held {
+                if self.pairs_before(held) == k {
+                    return Ok((index, held.word));
+                }
             }
         }
-        n
+        Err(Refusal::NoPair)
     }
 
-    fn comes_before(&self, i: usize, j: usize) -> bool {
-        if i >= SIZE || j >= SIZE {
-            return false;
-        }
-        self.layer[i] < self.layer[j]
-            || (self.layer[i] == self.layer[j] && self.entered[i] < self.entered[j])
+    fn pairs_before(&self, held: Held) -> usize {
+        self.rows
+            .iter()
+            .filter(|row| row.held.is_some_and(|other| other.comes_before(held)))
+            .count()
     }
 
     pub(crate) fn forget(&mut self) {
-        self.read_first = [false; SIZE];
-        self.write_first = [false; SIZE];
-        self.layer = [0; SIZE];
+        self.rows = self.rows.map(|row| Row {
+            read_first: false,
+            write_first: false,
+            held: None,
+            ..row
+        });
     }
-}
-
-fn count(set: &[bool; SIZE]) -> usize {
-    let mut n: usize = 0;
-    for member in set.iter() {
-        if *member {
-            n = n.saturating_add(1);
-        }
-    }
-    n
 }
 
 // `old` with the bytes that `lanes` name taken from `new`, by a mask.
 fn mixed(old: u32, new: u32, lanes: u32) -> u32 {
-    let mut mask: u32 = 0;
-    if lanes & 1 != 0 {
-        mask |= 0x0000_00ff;
-    }
-    if lanes & 2 != 0 {
-        mask |= 0x0000_ff00;
-    }
-    if lanes & 4 != 0 {
-        mask |= 0x00ff_0000;
-    }
-    if lanes & 8 != 0 {
-        mask |= 0xff00_0000;
-    }
+    let mask = [0xff, 0xff00, 0x00ff_0000, 0xff00_0000]
+        .iter()
+        .enumerate()
+        .filter(|(k, _)| lanes >> k & 1 == 1)
+        .fold(0, |mask, (_, byte)| mask | byte);
     (old & !mask) | (new & mask)
 }

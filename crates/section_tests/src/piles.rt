@@ -1,10 +1,11 @@
 // The piles: each kind of set for reads and for writes, under zero to three write-back layers.
 use crate::calls::exercise;
-use crate::model::{Model, SIZE};
+use crate::model::{SIZE, Shape};
 use index_sets::IndexSet;
 use index_sets::marks::Marks;
 use index_sets::table::Table;
 use memory::word_bank::WordBank;
+use section::Refusal;
 use section::detector::Detector;
 use std::process::Abort;
 use std::test::Fail;
@@ -23,50 +24,24 @@ fn pile_up<R: IndexSet + Copy + Drop, F: IndexSet + Copy + Drop>(
     writes: F,
     most_writes: usize,
 ) -> Result<(), Fail> {
+    let shape = |layers| Shape {
+        most_reads,
+        most_writes,
+        layers,
+    };
     let mut words = [0; SIZE];
     let mut pile = Detector::new(WordBank::new(&mut words), reads, writes);
-    exercise(
-        rt,
-        &mut pile,
-        &mut Model::new(most_reads, most_writes, 0),
-        0,
-        1,
-    )?;
+    exercise(rt, &mut pile, shape(0), 1)?;
     let mut words = [0; SIZE];
-    let mut pile = WriteBack::new(Detector::new(WordBank::new(&mut words), reads, writes));
-    exercise(
-        rt,
-        &mut pile,
-        &mut Model::new(most_reads, most_writes, 1),
-        1,
-        2,
-    )?;
+    let pile = Detector::new(WordBank::new(&mut words), reads, writes);
+    exercise(rt, &mut WriteBack::new(pile), shape(1), 2)?;
     let mut words = [0; SIZE];
-    let mut pile = WriteBack::new(WriteBack::new(Detector::new(
-        WordBank::new(&mut words),
-        reads,
-        writes,
-    )));
-    exercise(
-        rt,
-        &mut pile,
-        &mut Model::new(most_reads, most_writes, 2),
-        2,
-        3,
-    )?;
+    let pile = Detector::new(WordBank::new(&mut words), reads, writes);
+    exercise(rt, &mut WriteBack::new(WriteBack::new(pile)), shape(2), 3)?;
     let mut words = [0; SIZE];
-    let mut pile = WriteBack::new(WriteBack::new(WriteBack::new(Detector::new(
-        WordBank::new(&mut words),
-        reads,
-        writes,
-    ))));
-    exercise(
-        rt,
-        &mut pile,
-        &mut Model::new(most_reads, most_writes, 3),
-        3,
-        4,
-    )
+    let pile = Detector::new(WordBank::new(&mut words), reads, writes);
+    let mut pile = WriteBack::new(WriteBack::new(WriteBack::new(pile)));
+    exercise(rt, &mut pile, shape(3), 4)
 }
 
 #[test]
@@ -87,4 +62,12 @@ fn marks_and_table(rt: HostRuntime) -> Result<(), Fail> {
 #[test]
 fn marks(rt: HostRuntime) -> Result<(), Fail> {
     pile_up(&rt, Marks::new(), MARKS, Marks::new(), MARKS)
+}
+
+#[test]
+fn refusals(rt: HostRuntime) {
+    assert_eq!(rt; Refusal::OutOfRange.number(), 20);
+    assert_eq!(rt; Refusal::Due.number(), 21);
+    assert_eq!(rt; Refusal::Lanes.number(), 23);
+    assert_eq!(rt; Refusal::NoPair.number(), 24);
 }
