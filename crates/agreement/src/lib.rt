@@ -28,12 +28,12 @@ pub fn sufficient_units(period: u32, most: u32) -> u64
     ensures refusals { RefusalsChangeNothing }
     ensures example { WorkedExample }
 {
-    38 + period as u64 + 4 * (most as u64)
+    38 + u64::from(period) + 4 * u64::from(most)
 }
 
 /// The words that a checkpoint store needs: the commit word and two slots, each with room for `most` pairs.
 pub fn store_words(most: u32) -> u64
     ensures { result ≡ store_size most }
 {
-    73 + 4 * (most as u64)
+    73 + 4 * u64::from(most)
 }
