@@ -1,25 +1,25 @@
 // From words to instructions, by opcode, funct3 and funct7.
 ghost use Rattle.std.specs.Prelude.{◌≡◌};
-ghost use Rattle.rv32i.specs.Decode.{condition as condition_of, load_kind, store_kind, operation as operation_of, operation_imm, decode_jalr, decode_branch, decode_load, decode_store, decode_op, decode_op_imm, decode_fence, decode_system, decode as decoded};
+ghost use Rattle.rv32i.specs.Decode.{operation as operation_of, operation_imm, decode_jalr, decode_branch, decode_load, decode_store, decode_op, decode_op_imm, decode_fence, decode_system, decode as decoded};
 
-use crate::fields::{bits, imm_b, imm_i, imm_j, imm_s, imm_u, register};
+use crate::fields::{funct3, funct7, imm_b, imm_i, imm_j, imm_s, imm_u, opcode, rd, rs1, rs2};
 use crate::instruction::{Condition, Instruction, LoadKind, Operation, Refusal, StoreKind};
 
 /// The instruction that `word` is; a refusal exactly if it is none.
 pub fn decode(word: u32) -> Result<Instruction, Refusal>
     ensures { result ≡ decoded word }
 {
-    match bits(word, 0, 7) {
+    match opcode(word) {
         0x37 => Ok(Instruction::Lui {
-            rd: register(word, 7),
+            rd: rd(word),
             imm: imm_u(word),
         }),
         0x17 => Ok(Instruction::Auipc {
-            rd: register(word, 7),
+            rd: rd(word),
             imm: imm_u(word),
         }),
         0x6f => Ok(Instruction::Jal {
-            rd: register(word, 7),
+            rd: rd(word),
             offset: imm_j(word),
         }),
         0x67 => decode_jalr(word),
@@ -37,23 +37,23 @@ pub fn decode(word: u32) -> Result<Instruction, Refusal>
 fn decode_jalr(word: u32) -> Result<Instruction, Refusal>
     ensures { result ≡ decode_jalr word }
 {
-    if bits(word, 12, 3) != 0 {
-        return Err(Refusal::NoInstruction);
+    match funct3(word) {
+        0 => Ok(Instruction::Jalr {
+            rd: rd(word),
+            rs1: rs1(word),
+            offset: imm_i(word),
+        }),
+        _ => Err(Refusal::NoInstruction),
     }
-    Ok(Instruction::Jalr {
-        rd: register(word, 7),
-        rs1: register(word, 15),
-        offset: imm_i(word),
-    })
 }
 
 fn decode_branch(word: u32) -> Result<Instruction, Refusal>
     ensures { result ≡ decode_branch word }
 {
     Ok(Instruction::Branch {
-        condition: condition(bits(word, 12, 3))?,
-        rs1: register(word, 15),
-        rs2: register(word, 20),
+        condition: Condition::try_from(funct3(word))?,
+        rs1: rs1(word),
+        rs2: rs2(word),
         offset: imm_b(word),
     })
 }
@@ -62,9 +62,9 @@ fn decode_load(word: u32) -> Result<Instruction, Refusal>
     ensures { result ≡ decode_load word }
 {
     Ok(Instruction::Load {
-        kind: load_kind(bits(word, 12, 3))?,
-        rd: register(word, 7),
-        rs1: register(word, 15),
+        kind: LoadKind::try_from(funct3(word))?,
+        rd: rd(word),
+        rs1: rs1(word),
         offset: imm_i(word),
     })
 }
@@ -73,9 +73,9 @@ fn decode_store(word: u32) -> Result<Instruction, Refusal>
     ensures { result ≡ decode_store word }
 {
     Ok(Instruction::Store {
-        kind: store_kind(bits(word, 12, 3))?,
-        rs1: register(word, 15),
-        rs2: register(word, 20),
+        kind: StoreKind::try_from(funct3(word))?,
+        rs1: rs1(word),
+        rs2: rs2(word),
         offset: imm_s(word),
     })
 }
@@ -84,10 +84,10 @@ fn decode_op(word: u32) -> Result<Instruction, Refusal>
     ensures { result ≡ decode_op word }
 {
     Ok(Instruction::Op {
-        operation: operation(bits(word, 25, 7), bits(word, 12, 3))?,
-        rd: register(word, 7),
-        rs1: register(word, 15),
-        rs2: register(word, 20),
+        operation: operation(funct7(word), funct3(word))?,
+        rd: rd(word),
+        rs1: rs1(word),
+        rs2: rs2(word),
     })
 }
 
@@ -95,9 +95,9 @@ fn decode_op_imm(word: u32) -> Result<Instruction, Refusal>
     ensures { result ≡ decode_op_imm word }
 {
     Ok(Instruction::OpImm {
-        operation: operation_imm(bits(word, 25, 7), bits(word, 12, 3))?,
-        rd: register(word, 7),
-        rs1: register(word, 15),
+        operation: operation_imm(funct7(word), funct3(word))?,
+        rd: rd(word),
+        rs1: rs1(word),
         imm: imm_i(word),
     })
 }
@@ -105,10 +105,9 @@ fn decode_op_imm(word: u32) -> Result<Instruction, Refusal>
 fn decode_fence(word: u32) -> Result<Instruction, Refusal>
     ensures { result ≡ decode_fence word }
 {
-    if bits(word, 12, 3) == 0 {
-        Ok(Instruction::Fence)
-    } else {
-        Err(Refusal::NoInstruction)
+    match funct3(word) {
+        0 => Ok(Instruction::Fence),
+        _ => Err(Refusal::NoInstruction),
     }
 }
 
@@ -118,44 +117,6 @@ fn decode_system(word: u32) -> Result<Instruction, Refusal>
     match word {
         0x0000_0073 => Ok(Instruction::Ecall),
         0x0010_0073 => Ok(Instruction::Ebreak),
-        _ => Err(Refusal::NoInstruction),
-    }
-}
-
-fn condition(funct3: u32) -> Result<Condition, Refusal>
-    ensures { result ≡ condition_of funct3 }
-{
-    match funct3 {
-        0 => Ok(Condition::Eq),
-        1 => Ok(Condition::Ne),
-        4 => Ok(Condition::Lt),
-        5 => Ok(Condition::Ge),
-        6 => Ok(Condition::Ltu),
-        7 => Ok(Condition::Geu),
-        _ => Err(Refusal::NoInstruction),
-    }
-}
-
-fn load_kind(funct3: u32) -> Result<LoadKind, Refusal>
-    ensures { result ≡ load_kind funct3 }
-{
-    match funct3 {
-        0 => Ok(LoadKind::Lb),
-        1 => Ok(LoadKind::Lh),
-        2 => Ok(LoadKind::Lw),
-        4 => Ok(LoadKind::Lbu),
-        5 => Ok(LoadKind::Lhu),
-        _ => Err(Refusal::NoInstruction),
-    }
-}
-
-fn store_kind(funct3: u32) -> Result<StoreKind, Refusal>
-    ensures { result ≡ store_kind funct3 }
-{
-    match funct3 {
-        0 => Ok(StoreKind::Sb),
-        1 => Ok(StoreKind::Sh),
-        2 => Ok(StoreKind::Sw),
         _ => Err(Refusal::NoInstruction),
     }
 }
