@@ -1,7 +1,7 @@
 -- What holds of every action that is planned: it is planned below the limit, and stays within the memory and the outputs.
-use Rattle.std.specs.Prelude.{if◌then◌else◌}
 use Rattle.std.proofs.Common.{◌≡◌, ℕ, ◌+◌, ◌*◌, ◌/◌, ◌%◌, ◌<◌, ◌≤◌, Bool, true, false, not, ◌&&◌, eqb, ltb, leb, Ok, Err, refl, ap, arith}
 use Rattle.std.proofs.lemmas.Bool.{leb-false, ltb-false}
+pub use Rattle.std.proofs.lemmas.Bool.{cond_both as if_both}
 use Rattle.rv32i.specs.Decode.{Decoded, decode}
 use Rattle.rv32i.specs.declared.instruction.LoadKind.{LoadKind}
 use Rattle.rv32i.specs.declared.instruction.StoreKind.{StoreKind}
@@ -16,11 +16,6 @@ use Rattle.hart.specs.declared.state.Core.{Core}
 use Rattle.hart.specs.declared.action.Action.{Action}
 use Rattle.hart.specs.declared.action.Action.TheVariants as action
 use Rattle.hart.specs.declared.action.Limits.{Limits}
-
--- what holds on both ways of a test
-pub if_both : {A : Type 0} (b : Bool) (x y : A) (P : A → Type 0) → (b ≡ true → P x) → (b ≡ false → P y) → P (if b then x else y)
-if_both true x y P t f = t refl
-if_both false x y P t f = f refl
 
 abbrev pub Within : Limits → Core → Action → Type 0
 Within lim c (action.Halt z) = Unit {0}

@@ -1,8 +1,9 @@
 // What one instruction does, or why the machine stops before it.
-ghost use Rattle.std.specs.Prelude.{◌≡◌};
-ghost use Rattle.hart.specs.Stops.{number as stop_number};
+ghost use Rattle.std.specs.Prelude.{◌≡◌, Some};
+ghost use Rattle.hart.specs.Stops.{number as stop_number, meaning};
 
 use rv32i::instruction::LoadKind;
+use std::fmt;
 
 /// The numbers of an image that bound its run: text words, memory words, the most outputs and the most instructions.
 #[derive(Clone, Copy, PartialEq, Eq, Debug)]
@@ -17,23 +18,23 @@ pub struct Limits {
 #[derive(Clone, Copy, PartialEq, Eq, Debug)]
 pub enum Stop {
     /// the count of instructions has reached the limit
-    Limit,
+    Limit = 1,
     /// pc is at or above the text's end
-    PastText,
+    PastText = 2,
     /// the word at pc is no instruction
-    NoInstruction,
-    Ebreak,
-    Ecall,
+    NoInstruction = 3,
+    Ebreak = 4,
+    Ecall = 5,
     /// a jump or taken branch goes to no multiple of 4
-    TargetMisaligned,
+    TargetMisaligned = 6,
     /// a data address is no multiple of its width
-    DataMisaligned,
+    DataMisaligned = 7,
     /// a data address is at or above the memory's end
-    OutOfRange,
+    OutOfRange = 8,
     /// a store goes below the text's end
-    StoreToText,
+    StoreToText = 9,
     /// an output after the most outputs
-    OutputsFull,
+    OutputsFull = 10,
 }
 
 impl Stop {
@@ -41,18 +42,27 @@ impl Stop {
     pub fn number(self) -> u32
         ensures { result ≡ stop_number self }
     {
-        match self {
-            Stop::Limit => 1,
-            Stop::PastText => 2,
-            Stop::NoInstruction => 3,
-            Stop::Ebreak => 4,
-            Stop::Ecall => 5,
-            Stop::TargetMisaligned => 6,
-            Stop::DataMisaligned => 7,
-            Stop::OutOfRange => 8,
-            Stop::StoreToText => 9,
-            Stop::OutputsFull => 10,
-        }
+        self as u32
+    }
+}
+
+/// What the stop means, in plain words.
+impl fmt::Display for Stop {
+    ghost output = { λ s. Some (meaning s) };
+
+    fn fmt<W: fmt::Write>(&self, f: &mut fmt::Formatter<W>) -> fmt::Result {
+        f.write_str(match self {
+            Stop::Limit => "the count of instructions has reached the limit",
+            Stop::PastText => "pc is at or above the end of the text",
+            Stop::NoInstruction => "the word at pc is no instruction",
+            Stop::Ebreak => "the next instruction is EBREAK",
+            Stop::Ecall => "the next instruction is ECALL",
+            Stop::TargetMisaligned => "the target of a jump or taken branch is not a multiple of 4",
+            Stop::DataMisaligned => "a data address is not a multiple of the access's width",
+            Stop::OutOfRange => "a data address is at or above the end of the memory",
+            Stop::StoreToText => "a store goes into the text",
+            Stop::OutputsFull => "an output comes when the most outputs are already sent",
+        })
     }
 }
 

@@ -1,7 +1,7 @@
 // What a processor keeps outside its memory.
 ghost use Rattle.std.specs.Prelude.{◌≡◌};
 ghost use Rattle.hart.specs.Registers.{reg, with_reg};
-ghost use Rattle.hart.specs.State.{started, retired, retired_load, retired_output, onward};
+ghost use Rattle.hart.specs.State.{after, started, retired, retired_load, retired_output, onward};
 
 use crate::alu::loaded;
 use rv32i::instruction::LoadKind;
@@ -18,18 +18,26 @@ impl Hart {
     pub fn read(&self, r: u8) -> u32
         ensures { result ≡ reg self.now.x r }
     {
-        let r = usize::from(r);
-        if r > 0 && r < 32 { self.x[r - 1] } else { 0 }
+        match r {
+            1..=31 => self.x[usize::from(r) - 1],
+            _ => 0,
+        }
     }
 
     /// Puts `value` into register `r`, and changes nothing else.
     pub fn write(&mut self, r: u8, value: u32)
         ensures { self.new ≡ record { x = with_reg self.old.x r value; pc = self.old.pc } }
     {
-        let r = usize::from(r);
-        if r > 0 && r < 32 {
-            self.x[r - 1] = value;
+        if let 1..=31 = r {
+            self.x[usize::from(r) - 1] = value;
         }
+    }
+
+    // The address after the instruction at pc.
+    pub(crate) fn after(&self) -> u32
+        ensures { result ≡ after self.now.pc }
+    {
+        self.pc.wrapping_add(4)
     }
 }
 
@@ -69,14 +77,16 @@ impl Core {
     pub fn retire_load(&mut self, kind: LoadKind, rd: u8, byte: u32, word: u32)
         ensures { self.new ≡ retired_load self.old kind rd byte word }
     {
-        self.retire(self.hart.pc.wrapping_add(4), rd, loaded(kind, word, byte));
+        let after = self.hart.after();
+        self.retire(after, rd, loaded(kind, word, byte));
     }
 
     /// One store more: no register changes.
     pub fn retire_store(&mut self)
         ensures { self.new ≡ retired self.old (onward self.old.hart).pc 0 0 }
     {
-        self.retire(self.hart.pc.wrapping_add(4), 0, 0);
+        let after = self.hart.after();
+        self.retire(after, 0, 0);
     }
 
     /// One output more.
