@@ -23,7 +23,8 @@ MIXED = 0x12345678
 class Case:
     text: str
     before: dict = field(default_factory=dict)
-    rd: int = 0
+    # The register that is written, if the instruction names one.
+    rd: int | None = None
     pc: int = START
     data: int = IDLE
 

@@ -11,55 +11,52 @@ def number(value):
     return str(value) if value < 10 else f"{value:#x}"
 
 
-def lui(rd, imm):
-    return f"lui x{rd}, {imm:#x}", f"Lui {{ rd: {rd}, imm: {number(imm << 12)} }}"
+def upper(imm):
+    """The immediate of which an instruction holds the upper twenty bits."""
+    return number(imm << 12)
 
 
-def auipc(rd, imm):
-    return f"auipc x{rd}, {imm:#x}", f"Auipc {{ rd: {rd}, imm: {number(imm << 12)} }}"
+def named(kind):
+    return lambda name: f"{kind}::{name}"
 
 
-def jal(rd, offset):
-    return f"jal x{rd}, .{offset:+}", f"Jal {{ rd: {rd}, offset: {number(offset)} }}"
+def form(variant, text, **fields):
+    """Makes an instruction's text and its decoding from the values of its fields. Beside each field
+    stands what writes its value in Rust."""
+
+    def build(*values):
+        held = dict(zip(fields, values, strict=True))
+        written = ", ".join(f"{name}: {write(held[name])}" for name, write in fields.items())
+        return text.format(**held).lower(), f"{variant} {{ {written} }}"
+
+    return build
 
 
-def jalr(rd, rs1, offset):
-    return (
-        f"jalr x{rd}, {offset}(x{rs1})",
-        f"Jalr {{ rd: {rd}, rs1: {rs1}, offset: {number(offset)} }}",
-    )
+load_kind, store_kind, operation = map(named, ("LoadKind", "StoreKind", "Operation"))
 
-
-def branch(condition, rs1, rs2, offset):
-    return (
-        f"b{condition.lower()} x{rs1}, x{rs2}, .{offset:+}",
-        f"Branch {{ condition: Condition::{condition}, rs1: {rs1}, rs2: {rs2}, "
-        f"offset: {number(offset)} }}",
-    )
-
-
-def load(kind, rd, rs1, offset):
-    return (
-        f"{kind.lower()} x{rd}, {offset}(x{rs1})",
-        f"Load {{ kind: LoadKind::{kind}, rd: {rd}, rs1: {rs1}, offset: {number(offset)} }}",
-    )
-
-
-def store(kind, rs1, rs2, offset):
-    return (
-        f"{kind.lower()} x{rs2}, {offset}(x{rs1})",
-        f"Store {{ kind: StoreKind::{kind}, rs1: {rs1}, rs2: {rs2}, offset: {number(offset)} }}",
-    )
-
-
-def op(operation, rd, rs1, rs2):
-    return (
-        f"{operation.lower()} x{rd}, x{rs1}, x{rs2}",
-        f"Op {{ operation: Operation::{operation}, rd: {rd}, rs1: {rs1}, rs2: {rs2} }}",
-    )
+lui = form("Lui", "lui x{rd}, {imm:#x}", rd=str, imm=upper)
+auipc = form("Auipc", "auipc x{rd}, {imm:#x}", rd=str, imm=upper)
+jal = form("Jal", "jal x{rd}, .{offset:+}", rd=str, offset=number)
+jalr = form("Jalr", "jalr x{rd}, {offset}(x{rs1})", rd=str, rs1=str, offset=number)
+branch = form(
+    "Branch",
+    "b{condition} x{rs1}, x{rs2}, .{offset:+}",
+    condition=named("Condition"),
+    rs1=str,
+    rs2=str,
+    offset=number,
+)
+load = form(
+    "Load", "{kind} x{rd}, {offset}(x{rs1})", kind=load_kind, rd=str, rs1=str, offset=number
+)
+store = form(
+    "Store", "{kind} x{rs2}, {offset}(x{rs1})", kind=store_kind, rs1=str, rs2=str, offset=number
+)
+op = form("Op", "{operation} x{rd}, x{rs1}, x{rs2}", operation=operation, rd=str, rs1=str, rs2=str)
 
 
 def op_imm(name, operation, rd, rs1, written, imm):
+    """An operation on an immediate, which a shift writes otherwise than it carries it."""
     return (
         f"{name} x{rd}, x{rs1}, {written}",
         f"OpImm {{ operation: Operation::{operation}, rd: {rd}, rs1: {rs1}, "

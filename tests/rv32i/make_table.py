@@ -52,10 +52,11 @@ class Outcome:
         memory[CELL] = case.data
         memory[case.pc // 4] = word
         after, cells = qemu.step(program, registers, memory)
-        self.result = after[case.rd]
         self.next = after[qemu.PC]
         self.data = cells[CELL]
-        registers[case.rd] = self.result
+        if case.rd is not None:
+            self.result = after[case.rd]
+            registers[case.rd] = self.result
         registers[qemu.PC] = self.next
         memory[CELL] = self.data
         assert after == registers and after[0] == 0, case
@@ -64,15 +65,9 @@ class Outcome:
     def head(self):
         return f'"{self.case.text}", 0x{self.word:08x}'
 
-    def sources(self, count):
+    def before(self):
         held = [f"X({index}, {number(value)})" for index, value in self.case.before.items()]
-        return (held + count * ["X(0, 0)"])[:count]
-
-    def pair(self):
-        return f"[{', '.join(self.sources(2))}]"
-
-    def source(self):
-        return self.sources(1)[0]
+        return f"&[{', '.join(held)}]"
 
     def written(self):
         return f"X({self.case.rd}, {number(self.result)})"
@@ -87,31 +82,32 @@ class Outcome:
 def computed(outcome):
     outcome.falls_through()
     outcome.keeps_data()
-    return f"Computed({outcome.head()}, {outcome.pair()}, {outcome.written()})"
+    written = "None" if outcome.case.rd is None else f"Some({outcome.written()})"
+    return f"Computed({outcome.head()}, {outcome.before()}, {written})"
 
 
 def linked(outcome):
     outcome.keeps_data()
     pc, following = number(outcome.case.pc), number(outcome.next)
-    return f"Linked({outcome.head()}, {pc}, {outcome.source()}, {following}, {outcome.written()})"
+    return f"Linked({outcome.head()}, {pc}, {outcome.before()}, {following}, {outcome.written()})"
 
 
 def branched(outcome):
     outcome.keeps_data()
-    return f"Branched({outcome.head()}, {outcome.pair()}, {number(outcome.next)})"
+    return f"Branched({outcome.head()}, {outcome.before()}, {number(outcome.next)})"
 
 
 def loaded(outcome):
     outcome.falls_through()
     outcome.keeps_data()
     data = number(outcome.case.data)
-    return f"Loaded({outcome.head()}, {outcome.source()}, {data}, {outcome.written()})"
+    return f"Loaded({outcome.head()}, {outcome.before()}, {data}, {outcome.written()})"
 
 
 def stored(outcome):
     outcome.falls_through()
     before, after = number(outcome.case.data), number(outcome.data)
-    return f"Stored({outcome.head()}, {outcome.pair()}, {before}, {after})"
+    return f"Stored({outcome.head()}, {outcome.before()}, {before}, {after})"
 
 
 TABLES = [

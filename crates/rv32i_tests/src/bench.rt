@@ -12,7 +12,7 @@ use std::process::Abort;
 pub const OUTPUTS: usize = 2;
 
 /// A machine between two steps, its memory and its log.
-#[derive(Clone, Copy)]
+#[derive(Clone, Copy, PartialEq, Eq)]
 pub struct Board {
     pub machine: Machine,
     pub cells: [u32; WORDS],
@@ -29,9 +29,8 @@ impl Board {
             ran: 7,
         };
         let mut cells = [IDLE; WORDS];
-        let at = (pc / 4) as usize;
-        if at < WORDS {
-            cells[at] = word;
+        if let Some(cell) = cells.get_mut((pc / 4) as usize) {
+            *cell = word;
         }
         Board {
             machine: Machine { limits, core },
@@ -40,17 +39,18 @@ impl Board {
         }
     }
 
-    /// Puts a word into its register; x0 has no place.
+    /// Puts a word into its register; x0 has no place. Not by `write`, which is among what is tested.
     pub(crate) fn set(&mut self, X(number, word): X) {
-        let r = usize::from(number);
-        if r > 0 && r < 32 {
-            self.machine.core.hart.x[r - 1] = word;
+        if let 1..=31 = number {
+            self.machine.core.hart.x[usize::from(number) - 1] = word;
         }
     }
 
-    /// The same after one instruction more, which writes a register and goes to `pc`.
-    pub(crate) fn retired(mut self, pc: u32, written: X) -> Board {
-        self.set(written);
+    /// The same after one instruction more, which goes to `pc` and writes at most one register.
+    pub(crate) fn retired(mut self, pc: u32, written: Option<X>) -> Board {
+        if let Some(register) = written {
+            self.set(register);
+        }
         self.machine.core.hart.pc = pc;
         self.machine.core.ran = self.machine.core.ran.saturating_add(1);
         self
@@ -58,25 +58,25 @@ impl Board {
 
     /// One step answers `answer`, and leaves `after`; `what` names the row in a failure.
     pub(crate) fn expect(
-        self,
+        mut self,
         rt: &impl Abort,
         what: &impl fmt::Display,
         answer: Option<Stop>,
         after: Board,
     ) {
-        let mut machine = self.machine;
-        let mut cells = self.cells;
-        let mut log = self.log;
-        let stop = machine.step(&mut WordBank::new(&mut cells), &mut WordBank::new(&mut log));
+        let stop = self.machine.step(
+            &mut WordBank::new(&mut self.cells),
+            &mut WordBank::new(&mut self.log),
+        );
         assert_eq!(rt; stop, Ok(answer), "{what}");
-        let left = machine.core.hart;
+        let hart = self.machine.core.hart;
         let wanted = after.machine.core.hart;
-        assert_eq!(rt; left.pc, wanted.pc, "{what}: pc");
+        assert_eq!(rt; hart.pc, wanted.pc, "{what}: pc");
         for r in 0..32 {
-            assert_eq!(rt; left.read(r), wanted.read(r), "{what}: x{r}");
+            assert_eq!(rt; hart.read(r), wanted.read(r), "{what}: x{r}");
         }
-        assert_eq!(rt; machine, after.machine, "{what}");
-        assert!(rt; cells == after.cells, "{what}: memory");
-        assert_eq!(rt; log, after.log, "{what}: log");
+        assert_eq!(rt; self.machine, after.machine, "{what}");
+        assert_eq!(rt; self.log, after.log, "{what}: log");
+        assert!(rt; self == after, "{what}: memory");
     }
 }

@@ -1,6 +1,6 @@
 // Each row of the tables, run by the machine.
 use crate::bench::Board;
-use crate::rows::{Branched, Computed, Linked, Loaded, NONE, Stored, X};
+use crate::rows::{Branched, Computed, Linked, Loaded, Stored, X};
 use crate::table::{
     BRANCHES, CELL, IMMEDIATES, LOADS, OPERATIONS, RELATIVES, START, STORES, WORDS,
 };
@@ -11,7 +11,7 @@ use std::process::Abort;
 const NEXT: u32 = START + 4;
 
 // A board with one instruction, the last of its text and the last that may run.
-fn start(pc: u32, word: u32, before: [X; 2]) -> Board {
+fn start(pc: u32, word: u32, before: &[X]) -> Board {
     let limits = Limits {
         text: pc / 4 + 1,
         words: WORDS as u32,
@@ -20,67 +20,60 @@ fn start(pc: u32, word: u32, before: [X; 2]) -> Board {
     };
     let mut board = Board::new(limits, pc, word);
     for register in before {
-        board.set(register);
+        board.set(*register);
     }
     board
 }
 
-fn compute(rt: &impl Abort, row: &Computed) {
-    let Computed(text, word, before, written) = *row;
-    let board = start(START, word, before);
-    board.expect(rt, &text, None, board.retired(NEXT, written));
+fn compute(rt: &impl Abort, rows: &[Computed]) {
+    for Computed(text, word, before, written) in rows {
+        let board = start(START, *word, before);
+        board.expect(rt, text, None, board.retired(NEXT, *written));
+    }
 }
 
 #[test]
 fn operations(rt: HostRuntime) {
-    for row in &OPERATIONS {
-        compute(&rt, row);
-    }
+    compute(&rt, &OPERATIONS);
 }
 
 #[test]
 fn immediates(rt: HostRuntime) {
-    for row in &IMMEDIATES {
-        compute(&rt, row);
-    }
+    compute(&rt, &IMMEDIATES);
 }
 
 #[test]
 fn relatives(rt: HostRuntime) {
-    for row in &RELATIVES {
-        let Linked(text, word, pc, before, next, written) = *row;
-        let board = start(pc, word, [before, NONE]);
-        board.expect(&rt, &text, None, board.retired(next, written));
+    for Linked(text, word, pc, before, next, written) in &RELATIVES {
+        let board = start(*pc, *word, before);
+        board.expect(&rt, text, None, board.retired(*next, Some(*written)));
     }
 }
 
 #[test]
 fn branches(rt: HostRuntime) {
-    for row in &BRANCHES {
-        let Branched(text, word, before, next) = *row;
-        let board = start(START, word, before);
-        board.expect(&rt, &text, None, board.retired(next, NONE));
+    for Branched(text, word, before, next) in &BRANCHES {
+        let board = start(START, *word, before);
+        board.expect(&rt, text, None, board.retired(*next, None));
     }
 }
 
 #[test]
 fn loads(rt: HostRuntime) {
-    for row in &LOADS {
-        let Loaded(text, word, before, cell, written) = *row;
-        let mut board = start(START, word, [before, NONE]);
-        board.cells[CELL] = cell;
-        board.expect(&rt, &text, None, board.retired(NEXT, written));
+    for Loaded(text, word, before, cell, written) in &LOADS {
+        let mut board = start(START, *word, before);
+        board.cells[CELL] = *cell;
+        board.expect(&rt, text, None, board.retired(NEXT, Some(*written)));
     }
 }
 
 #[test]
 fn stores(rt: HostRuntime) {
-    for row in &STORES {
-        let Stored(text, word, before, cell, cell_after) = *row;
-        let mut board = start(START, word, before);
-        board.cells[CELL] = cell;
-        let mut after = board.retired(NEXT, NONE);
-        after.cells[CELL] = cell_after;
-        board.expect(&rt, &text, None, after);
+    for Stored(text, word, before, cell, cell_after) in &STORES {
+        let mut board = start(START, *word, before);
+        board.cells[CELL] = *cell;
+        let mut after = board.retired(NEXT, None);
+        after.cells[CELL] = *cell_after;
+        board.expect(&rt, text, None, after);
     }
 }

@@ -5,28 +5,38 @@ use rv32i::instruction::Instruction;
 #[derive(Clone, Copy)]
 pub struct X(pub u8, pub u32);
 
-/// What stands where a row needs no register.
-pub const NONE: X = X(0, 0);
-
-/// The registers before, and the one that is written.
+/// The registers before, and the one that is written, if the instruction names one.
 #[derive(Clone, Copy)]
-pub struct Computed(pub &'static str, pub u32, pub [X; 2], pub X);
+pub struct Computed(pub &'static str, pub u32, pub &'static [X], pub Option<X>);
 
-/// Where the instruction stands, the register before, the next pc, and the register that is written.
+/// Where the instruction stands, the registers before, the next pc, and the register that is written.
 #[derive(Clone, Copy)]
-pub struct Linked(pub &'static str, pub u32, pub u32, pub X, pub u32, pub X);
+pub struct Linked(
+    pub &'static str,
+    pub u32,
+    pub u32,
+    pub &'static [X],
+    pub u32,
+    pub X,
+);
 
 /// The registers before, and the next pc.
 #[derive(Clone, Copy)]
-pub struct Branched(pub &'static str, pub u32, pub [X; 2], pub u32);
+pub struct Branched(pub &'static str, pub u32, pub &'static [X], pub u32);
 
-/// The register before, the cell, and the register that is written.
+/// The registers before, the cell, and the register that is written.
 #[derive(Clone, Copy)]
-pub struct Loaded(pub &'static str, pub u32, pub X, pub u32, pub X);
+pub struct Loaded(pub &'static str, pub u32, pub &'static [X], pub u32, pub X);
 
 /// The registers before, and the cell before and after.
 #[derive(Clone, Copy)]
-pub struct Stored(pub &'static str, pub u32, pub [X; 2], pub u32, pub u32);
+pub struct Stored(
+    pub &'static str,
+    pub u32,
+    pub &'static [X],
+    pub u32,
+    pub u32,
+);
 
 /// The instruction that the word is.
 #[derive(Clone, Copy)]

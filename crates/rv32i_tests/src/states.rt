@@ -1,6 +1,6 @@
 // States of a small machine and what its next step does, by the rules of the stops and their order.
 use crate::bench::Board;
-use crate::rows::{NONE, X};
+use crate::rows::X;
 use crate::table::IDLE;
 use code::*;
 use hart::action::{Limits, Stop};
@@ -108,13 +108,13 @@ const READY: State = State {
 #[derive(Clone, Copy)]
 pub struct Stopped(pub State, pub Stop);
 
-/// A state, its next pc and the register that is written.
+/// A state, its next pc and the register that is written, if one is.
 #[derive(Clone, Copy)]
-pub struct Passed(pub State, pub u32, pub X);
+pub struct Passed(pub State, pub u32, pub Option<X>);
 
 /// The same, and why the step after it stops.
 #[derive(Clone, Copy)]
-pub struct Last(pub State, pub u32, pub X, pub Stop);
+pub struct Last(pub State, pub u32, pub Option<X>, pub Stop);
 
 /// A state, and the index and the new word of the cell that is written.
 #[derive(Clone, Copy)]
@@ -231,53 +231,53 @@ pub static STOPS: [Stopped; 91] = [
 #[rattlefmt::skip]
 pub static PASSES: [Passed; 31] = [
     // no stop is near
-    Passed(READY, 4, NONE),
+    Passed(READY, 4, None),
     // branches that are not taken, to no multiple of 4
-    Passed(State { word: BEQ, x6: 5, x7: 6, ..READY }, 4, NONE),
-    Passed(State { word: BNE, x6: 5, x7: 5, ..READY }, 4, NONE),
-    Passed(State { word: BLT, x6: 0, x7: 0xffff_ffff, ..READY }, 4, NONE),
-    Passed(State { word: BGE, x6: 0xffff_ffff, x7: 0, ..READY }, 4, NONE),
-    Passed(State { word: BLTU, x6: 0xffff_ffff, x7: 0, ..READY }, 4, NONE),
-    Passed(State { word: BGEU, x6: 0, x7: 0xffff_ffff, ..READY }, 4, NONE),
+    Passed(State { word: BEQ, x6: 5, x7: 6, ..READY }, 4, None),
+    Passed(State { word: BNE, x6: 5, x7: 5, ..READY }, 4, None),
+    Passed(State { word: BLT, x6: 0, x7: 0xffff_ffff, ..READY }, 4, None),
+    Passed(State { word: BGE, x6: 0xffff_ffff, x7: 0, ..READY }, 4, None),
+    Passed(State { word: BLTU, x6: 0xffff_ffff, x7: 0, ..READY }, 4, None),
+    Passed(State { word: BGEU, x6: 0, x7: 0xffff_ffff, ..READY }, 4, None),
     // JALR clears bit 0
-    Passed(State { word: JALR, x6: 5, ..READY }, 4, X(1, 4)),
-    Passed(State { word: JALR_OWN, x6: 13, ..READY }, 12, X(6, 4)),
+    Passed(State { word: JALR, x6: 5, ..READY }, 4, Some(X(1, 4))),
+    Passed(State { word: JALR_OWN, x6: 13, ..READY }, 12, Some(X(6, 4))),
     // loads at the ends of the memory
-    Passed(State { word: LW, x6: 0, ..READY }, 4, X(5, LW)),
-    Passed(State { word: LB, x6: 31, ..READY }, 4, X(5, 0x5e)),
-    Passed(State { word: LH, x6: 30, ..READY }, 4, X(5, 0x5eed)),
-    Passed(State { word: LW, x6: 28, ..READY }, 4, X(5, IDLE)),
-    Passed(State { word: LBU, x6: 31, ..READY }, 4, X(5, 0x5e)),
-    Passed(State { word: LHU, x6: 30, ..READY }, 4, X(5, 0x5eed)),
+    Passed(State { word: LW, x6: 0, ..READY }, 4, Some(X(5, LW))),
+    Passed(State { word: LB, x6: 31, ..READY }, 4, Some(X(5, 0x5e))),
+    Passed(State { word: LH, x6: 30, ..READY }, 4, Some(X(5, 0x5eed))),
+    Passed(State { word: LW, x6: 28, ..READY }, 4, Some(X(5, IDLE))),
+    Passed(State { word: LBU, x6: 31, ..READY }, 4, Some(X(5, 0x5e))),
+    Passed(State { word: LHU, x6: 30, ..READY }, 4, Some(X(5, 0x5eed))),
     // loads into x0, whatever the address
-    Passed(State { word: LB_AWAY, x6: END, ..READY }, 4, NONE),
-    Passed(State { word: LB_AWAY, x6: PORT, ..READY }, 4, NONE),
-    Passed(State { word: LB_AWAY, x6: 0xffff_ffff, ..READY }, 4, NONE),
-    Passed(State { word: LH_AWAY, x6: 17, ..READY }, 4, NONE),
-    Passed(State { word: LH_AWAY, x6: END, ..READY }, 4, NONE),
-    Passed(State { word: LH_AWAY, x6: 33, ..READY }, 4, NONE),
-    Passed(State { word: LW_AWAY, x6: 18, ..READY }, 4, NONE),
-    Passed(State { word: LW_AWAY, x6: END, ..READY }, 4, NONE),
-    Passed(State { word: LW_AWAY, x6: PORT, ..READY }, 4, NONE),
-    Passed(State { word: LW_AWAY, x6: 0x8000_0001, ..READY }, 4, NONE),
-    Passed(State { word: LBU_AWAY, x6: END, ..READY }, 4, NONE),
-    Passed(State { word: LBU_AWAY, x6: PORT, ..READY }, 4, NONE),
-    Passed(State { word: LHU_AWAY, x6: 17, ..READY }, 4, NONE),
-    Passed(State { word: LHU_AWAY, x6: END, ..READY }, 4, NONE),
-    Passed(State { word: LHU_AWAY, x6: PORT, ..READY }, 4, NONE),
-    Passed(State { word: LHU_AWAY, x6: 0x8000_0001, ..READY }, 4, NONE),
+    Passed(State { word: LB_AWAY, x6: END, ..READY }, 4, None),
+    Passed(State { word: LB_AWAY, x6: PORT, ..READY }, 4, None),
+    Passed(State { word: LB_AWAY, x6: 0xffff_ffff, ..READY }, 4, None),
+    Passed(State { word: LH_AWAY, x6: 17, ..READY }, 4, None),
+    Passed(State { word: LH_AWAY, x6: END, ..READY }, 4, None),
+    Passed(State { word: LH_AWAY, x6: 33, ..READY }, 4, None),
+    Passed(State { word: LW_AWAY, x6: 18, ..READY }, 4, None),
+    Passed(State { word: LW_AWAY, x6: END, ..READY }, 4, None),
+    Passed(State { word: LW_AWAY, x6: PORT, ..READY }, 4, None),
+    Passed(State { word: LW_AWAY, x6: 0x8000_0001, ..READY }, 4, None),
+    Passed(State { word: LBU_AWAY, x6: END, ..READY }, 4, None),
+    Passed(State { word: LBU_AWAY, x6: PORT, ..READY }, 4, None),
+    Passed(State { word: LHU_AWAY, x6: 17, ..READY }, 4, None),
+    Passed(State { word: LHU_AWAY, x6: END, ..READY }, 4, None),
+    Passed(State { word: LHU_AWAY, x6: PORT, ..READY }, 4, None),
+    Passed(State { word: LHU_AWAY, x6: 0x8000_0001, ..READY }, 4, None),
 ];
 
 /// What goes on, though the step after it stops: it leaves the text, or reaches the limit.
 #[rattlefmt::skip]
 pub static LASTS: [Last; 7] = [
-    Last(State { pc: 12, ..READY }, 16, NONE, Stop::PastText),
-    Last(State { word: JAL_OUT, ..READY }, 16, X(1, 4), Stop::PastText),
-    Last(State { word: JAL_BACK, ..READY }, 0xffff_fffc, X(1, 4), Stop::PastText),
-    Last(State { word: JALR, x6: 17, ..READY }, 16, X(1, 4), Stop::PastText),
-    Last(State { word: JALR, x6: END, ..READY }, 32, X(1, 4), Stop::PastText),
-    Last(State { word: JALR_OWN, x6: PORT, ..READY }, PORT, X(6, 4), Stop::PastText),
-    Last(State { ran: 9, pc: 12, word: JALR, ..READY }, 0, X(1, 16), Stop::Limit),
+    Last(State { pc: 12, ..READY }, 16, None, Stop::PastText),
+    Last(State { word: JAL_OUT, ..READY }, 16, Some(X(1, 4)), Stop::PastText),
+    Last(State { word: JAL_BACK, ..READY }, 0xffff_fffc, Some(X(1, 4)), Stop::PastText),
+    Last(State { word: JALR, x6: 17, ..READY }, 16, Some(X(1, 4)), Stop::PastText),
+    Last(State { word: JALR, x6: END, ..READY }, 32, Some(X(1, 4)), Stop::PastText),
+    Last(State { word: JALR_OWN, x6: PORT, ..READY }, PORT, Some(X(6, 4)), Stop::PastText),
+    Last(State { ran: 9, pc: 12, word: JALR, ..READY }, 0, Some(X(1, 16)), Stop::Limit),
 ];
 
 /// Stores at the ends of what may be written.
