@@ -34,8 +34,7 @@ pub(crate) fn holds(condition: Condition, a: u32, b: u32) -> bool
     }
 }
 
-// How many bytes a load reads. The widths are functions here, and no methods of the kinds, since only execution asks for them:
-// decoding tells kinds apart and would promise what it never uses.
+// How many bytes a load reads. A function here, as that of stores, and no method of the kind: only execution asks for it.
 pub(crate) fn load_width(kind: LoadKind) -> u32
     ensures { result ≡ width_of_load kind }
 {

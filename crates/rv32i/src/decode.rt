@@ -121,6 +121,7 @@ fn decode_system(word: u32) -> Result<Instruction, Refusal>
     }
 }
 
+// No TryFrom, unlike the kinds: two tables lead from the same numbers to an operation, by opcode.
 fn operation(funct7: u32, funct3: u32) -> Result<Operation, Refusal>
     ensures { result ≡ operation_of funct7 funct3 }
 {

@@ -1,4 +1,5 @@
-// The rows of the tables. The first parts of each are an instruction's text and its word.
+// The rows of the tables. The first parts of each are an instruction's text and its word, and the others only what such
+// instructions look at or change, so that each kind of row is a type of its own and stays short.
 use rv32i::instruction::Instruction;
 
 /// A register's number and the word in it.
