@@ -5,7 +5,7 @@ ghost use Rattle.machine.specs.Run.{RunsEnd};
 
 use crate::{End, Machine, Refusal};
 use memory::Memory;
-use memory::word_bank::WordBank;
+use memory::bank::WordBank;
 
 /// Loads an image and runs it to its end: the memory then begins with the words that its run leaves, the log with its outputs.
 /// A refusal changes nothing. Every run ends.

@@ -1,8 +1,17 @@
-use Rattle.std.proofs.Common.{◌≡◌, ℕ, ◌+◌, ◌*◌, ◌/◌, ◌%◌, ◌<◌, ◌≤◌, min, ◌≢◌, ◌⊎◌, List, length, get_or, drop, set, sym, ap, ◌∙◌, inl, inr, ⊎_elim, arith}
+-- The words of a row of bytes, and a word that is put there.
+use Rattle.std.proofs.Common.{◌≡◌, ℕ, zero, suc, ◌+◌, ◌*◌, ◌/◌, ◌<◌, ◌≤◌, ◌≢◌, List, [], length, get_or, take, drop, set, Option, slice_get, sym, refl, ap, ◌∙◌, arith, w32}
+use Rattle.std.specs.Int.{to_le_bytes, from_le_bytes}
+use Rattle.std.specs.Option.{option_map}
+use Rattle.std.specs.Simd.{first_chunks}
+use borrow.Rule.Slice.PartMut.{put_mid}
+use lib.Lanes.{put_chunk}
 use Rattle.std.proofs.lemmas.Bool.{cases_eq, cases_lt}
-use Rattle.std.proofs.lemmas.List.FromFn.{length-map-range_with_len, get_or-map-range_with_len}
-use Rattle.std.proofs.lemmas.List.{get_or-set_same, get_or-set_other, length-set, ext_get_or, drop-set-lt}
-use Rattle.memory.specs.Bytes.{word_at, packed_size, packed, beside}
+use Rattle.std.proofs.lemmas.List.FromFn.{length-map-range_with_len, get_or-map-range_with_len, fill_by_all}
+use Rattle.std.proofs.lemmas.List.{length-take, get_or-take, get_or-drop, get_or-set_same, get_or-set_other, length-set}
+use Rattle.std.proofs.lemmas.Option.{slice_get-get_or, slice_get_past}
+use Rattle.std.proofs.lemmas.Slice.{drop-put_mid}
+use Rattle.std.proofs.lemmas.Simd.{length-put_chunk, put_chunk_is, get_or-put_chunk_below, get_or-put_chunk_at, get_or-put_chunk_above}
+use Rattle.memory.specs.Bytes.{word_at, packed_size, packed, beside, WordIs}
 
 pub packed_length : (bs : List ℕ) → length (packed bs) ≡ packed_size bs
 packed_length bs = length-map-range_with_len (word_at bs) 0 (packed_size bs)
@@ -10,102 +19,59 @@ packed_length bs = length-map-range_with_len (word_at bs) 0 (packed_size bs)
 pub packed_at : (bs : List ℕ) (i : ℕ) → i < packed_size bs → get_or (packed bs) i 0 ≡ word_at bs i
 packed_at bs i h = get_or-map-range_with_len (word_at bs) 0 (packed_size bs) i i 0 h (omega arith)
 
-pub packed_fits : (bs : List ℕ) (i : ℕ) → i < packed_size bs → 4 * i + 3 < length bs
-packed_fits bs i h = omega arith
+-- a word that is read in the part of the row that has words
+pub packed_get : (bs : List ℕ) (i n : ℕ) (r : Option ℕ) → n ≡ packed_size bs → WordIs (take (4 * n) bs) i r → r ≡ slice_get (packed bs) i
+packed_get bs i n r e h =
+    grind (arith, cases_lt i n, length-take, get_or-take, packed_length, packed_at, slice_get-get_or (packed bs) i 0, slice_get_past)
 
--- the row with four bytes put in from a on
-abbrev pub with_four : List ℕ → ℕ → ℕ → ℕ → ℕ → ℕ → List ℕ
-with_four bs a b₀ b₁ b₂ b₃ = set (set (set (set bs a b₀) (a + 1) b₁) (a + 2) b₂) (a + 3) b₃
+-- a word is a chunk of four bytes
+pub chunk_word : (n : ℕ) (bs : List ℕ) (i : ℕ) (d : List ℕ) → i < n → from_le_bytes w32 (get_or (first_chunks 4 n bs) i d) ≡ word_at bs i
+chunk_word zero bs i d h = absurd (omega arith)
+chunk_word (suc n) bs zero d h = grind (arith, get_or-take)
+chunk_word (suc n) bs (suc i) d h = chunk_word n (drop 4 bs) i d (omega arith) ∙ grind (arith, get_or-drop)
 
-module _ (bs : List ℕ) (a b₀ b₁ b₂ b₃ : ℕ) (room : a + 3 < length bs) where
-  four_length : length (with_four bs a b₀ b₁ b₂ b₃) ≡ length bs
-  four_length = simp length-set
-
-  four_0 : get_or (with_four bs a b₀ b₁ b₂ b₃) a 0 ≡ b₀
-  four_0 =
-      get_or-set_other _ (a + 3) a b₃ 0 (omega arith)
-      ∙ get_or-set_other _ (a + 2) a b₂ 0 (omega arith)
-      ∙ get_or-set_other _ (a + 1) a b₁ 0 (omega arith)
-      ∙ get_or-set_same bs a b₀ 0 (omega arith)
-
-  four_1 : get_or (with_four bs a b₀ b₁ b₂ b₃) (a + 1) 0 ≡ b₁
-  four_1 =
-      get_or-set_other _ (a + 3) (a + 1) b₃ 0 (omega arith)
-      ∙ get_or-set_other _ (a + 2) (a + 1) b₂ 0 (omega arith)
-      ∙ get_or-set_same (set bs a b₀) (a + 1) b₁ 0 (simp length-set (omega arith))
-
-  four_2 : get_or (with_four bs a b₀ b₁ b₂ b₃) (a + 2) 0 ≡ b₂
-  four_2 =
-      get_or-set_other _ (a + 3) (a + 2) b₃ 0 (omega arith)
-      ∙ get_or-set_same (set (set bs a b₀) (a + 1) b₁) (a + 2) b₂ 0 (simp length-set (omega arith))
-
-  four_3 : get_or (with_four bs a b₀ b₁ b₂ b₃) (a + 3) 0 ≡ b₃
-  four_3 = get_or-set_same (set (set (set bs a b₀) (a + 1) b₁) (a + 2) b₂) (a + 3) b₃ 0 (simp length-set (omega arith))
-
-  four_off : (j : ℕ) → (j < a) ⊎ (a + 3 < j) → get_or (with_four bs a b₀ b₁ b₂ b₃) j 0 ≡ get_or bs j 0
-  four_off j h =
-      get_or-set_other _ (a + 3) j b₃ 0 (omega arith)
-      ∙ get_or-set_other _ (a + 2) j b₂ 0 (omega arith)
-      ∙ get_or-set_other _ (a + 1) j b₁ 0 (omega arith)
-      ∙ get_or-set_other bs a j b₀ 0 (omega arith)
-
-four_drop : (bs : List ℕ) (a b₀ b₁ b₂ b₃ n : ℕ) → a + 3 < n → drop n (with_four bs a b₀ b₁ b₂ b₃) ≡ drop n bs
-four_drop bs a b₀ b₁ b₂ b₃ n h =
-    drop-set-lt n _ (a + 3) b₃ (omega arith)
-    ∙ drop-set-lt n _ (a + 2) b₂ (omega arith)
-    ∙ drop-set-lt n _ (a + 1) b₁ (omega arith)
-    ∙ drop-set-lt n bs a b₀ (omega arith)
+pub chunk_is : (bs : List ℕ) (i : ℕ) (cs : List (List ℕ)) → cs ≡ first_chunks 4 (length bs / 4) bs → length cs ≡ length bs / 4 → WordIs bs i (option_map (from_le_bytes w32) (slice_get cs i))
+chunk_is bs i cs are count = grind (arith, slice_get-get_or cs i [], slice_get_past, chunk_word)
 
 module _ (bs : List ℕ) (i w : ℕ) (low : i < packed_size bs) (fits : w < 4294967296) where
-  abbrev after : List ℕ
-  after = with_four bs (4 * i) (w % 256) (w / 256 % 256) (w / 65536 % 256) (w / 16777216)
+  -- the row with a word's bytes put in
+  abbrev written : List ℕ
+  written = put_chunk (4 * i) bs (to_le_bytes w32 w)
 
-  abbrev room : 4 * i + 3 < length bs
-  room = packed_fits bs i low
+  byte : (k j : ℕ) → j < 4 → 4 * i + j ≡ k → get_or written k 0 ≡ get_or (to_le_bytes w32 w) j 0
+  byte k j h e = ap (λ (z : ℕ). get_or written z 0) (sym e) ∙ get_or-put_chunk_at (4 * i) bs (to_le_bytes w32 w) j 0 h (omega arith)
 
-  word_same : word_at after i ≡ w
+  word_same : word_at written i ≡ w
   word_same =
       omega (
         arith,
-        four_0 bs (4 * i) (w % 256) (w / 256 % 256) (w / 65536 % 256) (w / 16777216) room,
-        four_1 bs (4 * i) (w % 256) (w / 256 % 256) (w / 65536 % 256) (w / 16777216) room,
-        four_2 bs (4 * i) (w % 256) (w / 256 % 256) (w / 65536 % 256) (w / 16777216) room,
-        four_3 bs (4 * i) (w % 256) (w / 256 % 256) (w / 65536 % 256) (w / 16777216) room,
+        byte (4 * i) 0 (omega arith) (omega arith),
+        byte (4 * i + 1) 1 (omega arith) refl,
+        byte (4 * i + 2) 2 (omega arith) refl,
+        byte (4 * i + 3) 3 (omega arith) refl,
       )
 
-  off : (k j : ℕ) → k ≢ i → 4 * k ≤ j → j ≤ 4 * k + 3 → get_or after j 0 ≡ get_or bs j 0
-  off k j ne l h =
-      four_off bs (4 * i) (w % 256) (w / 256 % 256) (w / 65536 % 256) (w / 16777216) room j
-      (⊎_elim (λ (q : k < i). inl (omega arith)) (λ (q : i ≤ k). inr (omega arith)) (cases_lt k i))
+  word_other : (k : ℕ) → k ≢ i → word_at written k ≡ word_at bs k
+  word_other k ne = grind (arith, get_or-put_chunk_below, get_or-put_chunk_above)
 
-  word_other : (k : ℕ) → k ≢ i → word_at after k ≡ word_at bs k
-  word_other k ne =
-      omega (
-        arith,
-        off k (4 * k) ne (omega arith) (omega arith),
-        off k (4 * k + 1) ne (omega arith) (omega arith),
-        off k (4 * k + 2) ne (omega arith) (omega arith),
-        off k (4 * k + 3) ne (omega arith) (omega arith),
-      )
+  same_size : packed_size written ≡ packed_size bs
+  same_size = rw length-put_chunk refl
 
-  same_size : packed_size after ≡ packed_size bs
-  same_size = ap (λ (z : ℕ). min 16384 (z / 4)) (four_length bs (4 * i) (w % 256) (w / 256 % 256) (w / 65536 % 256) (w / 16777216) room)
+  written_word : (k : ℕ) → k < packed_size written → get_or (set (packed bs) i w) k 0 ≡ word_at written k
+  written_word k h = grind (arith, cases_eq k i, get_or-set_same, get_or-set_other, packed_length, packed_at, same_size, word_same, word_other)
 
-  pub packed_put : packed after ≡ set (packed bs) i w
+  pub packed_put : packed written ≡ set (packed bs) i w
   packed_put =
-      ext_get_or 0 (packed after) (set (packed bs) i w)
-      (packed_length after ∙ same_size ∙ sym (packed_length bs) ∙ sym (length-set (packed bs) i w))
-      (λ k h.
-      let n : k < packed_size bs = omega (arith, packed_length after, same_size) in
-      packed_at after k (omega (arith, same_size))
-      ∙ ⊎_elim
-      (λ (q : k ≡ i).
-      ap (word_at after) q ∙ word_same
-      ∙ sym (ap (λ (z : ℕ). get_or (set (packed bs) i w) z 0) q ∙ get_or-set_same (packed bs) i w 0 (omega (arith, packed_length bs))))
-      (λ (ne : k ≢ i). word_other k ne ∙ sym (get_or-set_other (packed bs) i k w 0 ne ∙ packed_at bs k n))
-      (cases_eq k i))
+      sym (fill_by_all (word_at written) (set (packed bs) i w) (packed_size written) 0
+      (length-set (packed bs) i w ∙ packed_length bs ∙ sym same_size)
+      written_word)
 
-  pub beside_put : beside after ≡ beside bs
+  -- a write to a part of the row leaves it so
+  pub written_is : (n : ℕ) (ws : List ℕ) → n ≡ 4 → ws ≡ to_le_bytes w32 w → put_mid (4 * i) n bs ws ≡ written
+  written_is n ws e f = let room : 4 * i + 4 ≤ length bs = omega arith in rw (e, f, put_chunk_is)
+
+  pub beside_put : beside written ≡ beside bs
   beside_put =
-      ap (λ (z : ℕ). drop (4 * z) after) same_size
-      ∙ four_drop bs (4 * i) (w % 256) (w / 256 % 256) (w / 65536 % 256) (w / 16777216) (4 * packed_size bs) (omega arith)
+      ap (λ (z : ℕ). drop (4 * z) written) same_size
+      ∙ ap (drop (4 * packed_size bs)) (sym (written_is 4 (to_le_bytes w32 w) refl refl))
+      ∙ drop-put_mid (4 * i) 4 bs (to_le_bytes w32 w) (4 * packed_size bs) (omega arith) (omega arith) refl

@@ -1,5 +1,5 @@
 -- The words of a row of bytes.
-use Rattle.std.specs.Prelude.{ℕ, ◌+◌, ◌*◌, ◌/◌, min, List, length, drop, slice_index}
+use Rattle.std.specs.Prelude.{◌≡◌, ℕ, ◌+◌, ◌*◌, ◌/◌, ◌<◌, ◌≤◌, min, List, length, drop, Some, None, Option, slice_index}
 use Rattle.memory.specs.Contents.{words_from}
 
 -- word i of a row of bytes, least significant byte first
@@ -18,3 +18,7 @@ packed bs = words_from (word_at bs) 0 (packed_size bs)
 -- the bytes after the last word in use
 abbrev pub beside : List ℕ → List ℕ
 beside bs = drop (4 * packed_size bs) bs
+
+-- word i of a row of bytes, none exactly if the row ends before it does
+abbrev pub WordIs : List ℕ → ℕ → Option ℕ → Type 0
+WordIs bs i r = (4 * i + 3 < length bs → r ≡ Some (word_at bs i)) × (length bs ≤ 4 * i + 3 → r ≡ None)

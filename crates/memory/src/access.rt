@@ -8,10 +8,7 @@ use crate::Memory;
 pub fn word_at<M: Memory>(memory: &M, index: usize) -> u32
     ensures { result ≡ word_of (M.Memory.words memory.now) index }
 {
-    match memory.look(index) {
-        Ok(word) => word,
-        Err(_) => 0,
-    }
+    memory.look(index).unwrap_or(0)
 }
 
 /// Makes the word at an index equal `word`; past the end it changes no word.

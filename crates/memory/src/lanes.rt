@@ -2,18 +2,15 @@
 ghost use Rattle.std.specs.Prelude.{◌≡◌, ◌/◌, ◌%◌, ◌^◌, ◌<◌, if◌then◌else◌, nat_eq, slice_index};
 ghost use Rattle.memory.specs.Lanes.{merged};
 
+use std::array::from_fn;
+
 /// `old` with the bytes that bits 0 to 3 of `lanes` name taken from `new`.
 pub fn merge(old: u32, new: u32, lanes: u32) -> u32
     ensures { result ≡ merged old new lanes }
 {
-    let o = old.to_le_bytes();
-    let n = new.to_le_bytes();
-    u32::from_le_bytes([
-        byte_of(o, n, lanes, 0),
-        byte_of(o, n, lanes, 1),
-        byte_of(o, n, lanes, 2),
-        byte_of(o, n, lanes, 3),
-    ])
+    let old = old.to_le_bytes();
+    let new = new.to_le_bytes();
+    u32::from_le_bytes(from_fn(|k| byte_of(old, new, lanes, k)))
 }
 
 // Byte `k` of `new` if the lanes name it, otherwise of `old`.

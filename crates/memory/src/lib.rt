@@ -2,10 +2,11 @@
 #![tactic(auto)]
 
 pub mod access;
-pub mod byte_bank;
+pub mod bank;
+pub mod bytes;
+pub mod cell;
 pub mod lanes;
 pub mod lent;
-pub mod word_bank;
 
 ghost use Rattle.std.specs.Prelude.{◌≡◌, ℕ, ◌≤◌, List, length};
 ghost use Rattle.memory.specs.Refusals.{number as refusal_number};
@@ -18,7 +19,7 @@ pub const MOST_WORDS: usize = 16384;
 #[derive(Clone, Copy, PartialEq, Eq, Debug)]
 pub enum Refusal {
     /// the index is not below the size
-    OutOfRange,
+    OutOfRange = 20,
 }
 
 impl Refusal {
@@ -26,9 +27,7 @@ impl Refusal {
     pub fn number(self) -> u32
         ensures { result ≡ refusal_number self }
     {
-        match self {
-            Refusal::OutOfRange => 20,
-        }
+        self as u32
     }
 }
 

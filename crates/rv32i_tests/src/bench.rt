@@ -4,7 +4,7 @@ use crate::table::{IDLE, WORDS};
 use hart::action::{Limits, Stop};
 use hart::state::{Core, Hart};
 use machine::Machine;
-use memory::word_bank::WordBank;
+use memory::bank::WordBank;
 use std::fmt;
 use std::process::Abort;
 

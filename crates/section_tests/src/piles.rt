@@ -4,7 +4,7 @@ use crate::model::{SIZE, Shape};
 use index_sets::IndexSet;
 use index_sets::marks::Marks;
 use index_sets::table::Table;
-use memory::word_bank::WordBank;
+use memory::bank::WordBank;
 use section::Refusal;
 use section::detector::Detector;
 use std::process::Abort;
