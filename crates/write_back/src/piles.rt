@@ -1,14 +1,14 @@
 // A word stored through whole piles: what a caller's row holds once the pile is gone.
 //
 // Each layer is put on by a function of its own, over a `&mut` to what is below it: so the checker knows what the row holds.
-ghost use Rattle.std.specs.Prelude.{◌≡◌, take, drop};
-ghost use Rattle.memory.specs.Bytes.{packed, beside};
+ghost use Rattle.std.specs.Prelude.{◌≡◌};
 ghost use Rattle.section.specs.Calls.{FirstWrite};
 
 use crate::layer::WriteBack;
 use index_sets::table::Table;
 use memory::Memory;
-use memory::bank::{ByteBank, WordBank};
+use memory::bank::Bank;
+use memory::cell::Cell;
 use section::Refusal;
 use section::detector::Detector;
 use section::section::Section;
@@ -55,20 +55,16 @@ pub fn store_over_memory<M: Memory>(
     store_over_section(&mut detector, index, word, lanes)
 }
 
-/// The same over a caller's words, of which at most 16,384 are used.
-pub fn store_in_words(cells: &mut [u32], index: usize, word: u32, lanes: u32) -> Result<(), Refusal>
-    ensures words { FirstWrite (take 16384 cells.old) index word lanes result (take 16384 cells.new) }
-    ensures rest { drop 16384 cells.new ≡ drop 16384 cells.old }
+/// The same over a caller's row of cells.
+pub fn store_in<C: Cell>(
+    cells: &mut [C],
+    index: usize,
+    word: u32,
+    lanes: u32,
+) -> Result<(), Refusal>
+    ensures words { FirstWrite (C.words cells.old) index word lanes result (C.words cells.new) }
+    ensures rest { C.beside cells.new ≡ C.beside cells.old }
 {
-    let mut bank = WordBank::new(cells);
-    store_over_memory(&mut bank, index, word, lanes)
-}
-
-/// The same over a caller's bytes.
-pub fn store_in_bytes(bytes: &mut [u8], index: usize, word: u32, lanes: u32) -> Result<(), Refusal>
-    ensures words { FirstWrite (packed bytes.old) index word lanes result (packed bytes.new) }
-    ensures rest { beside bytes.new ≡ beside bytes.old }
-{
-    let mut bank = ByteBank::new(bytes);
+    let mut bank = Bank::new(cells);
     store_over_memory(&mut bank, index, word, lanes)
 }
