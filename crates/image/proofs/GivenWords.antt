@@ -2,8 +2,8 @@
 use Rattle.std.proofs.Common.{◌≡◌, ℕ, ◌+◌, ◌*◌, ◌<◌, ◌≤◌, List, length, get_or, drop, Some, None, Option, sym, refl, ap, ◌∙◌, arith}
 use Rattle.std.proofs.lemmas.List.FromFn.{length-map-range_with_len, get_or-map-range_with_len}
 use Rattle.std.proofs.lemmas.List.{get_or-drop, length-drop}
-use Rattle.memory.specs.Bytes.{word_at}
-use Rattle.image.specs.Image.{header, given_words, refusal, WordIs}
+use Rattle.memory.specs.Bytes.{word_at, WordIs}
+use Rattle.image.specs.Image.{header, given_words, refusal}
 use Rattle.image.proofs.Accepted.{accepted}
 
 byte_after : (bs : List ℕ) (i j : ℕ) → 28 + i ≡ j → get_or (drop 28 bs) i 0 ≡ get_or bs j 0

@@ -1,5 +1,5 @@
 -- Images: rows of bytes, read as words, least significant byte first. Seven header words come first, the given memory words after them.
-use Rattle.std.specs.Prelude.{◌≡◌, ℕ, ◌+◌, ◌*◌, ◌%◌, ◌<◌, ◌≤◌, Bool, ◌&&◌, List, [], ◌∷◌, ◌++◌, length, drop, Some, None, Ok, Err, Option, Result, ◌==◌, nat_le, nat_lt}
+use Rattle.std.specs.Prelude.{◌≡◌, ℕ, ◌+◌, ◌*◌, ◌%◌, Bool, ◌&&◌, List, [], ◌∷◌, ◌++◌, length, drop, Some, None, Ok, Err, Option, Result, ◌==◌, nat_le, nat_lt}
 use Rattle.memory.specs.Bytes.{word_at}
 use Rattle.memory.specs.Contents.{words_from}
 use Rattle.image.specs.declared.Image.{Image}
@@ -73,7 +73,3 @@ Judged h (Err e) = first_no (header_questions h) ≡ Some (as_no e)
 abbrev pub ReadAs : List ℕ → Result Image Refusal → Type 0
 ReadAs bs (Ok im) = (refusal bs ≡ None) × (im.header ≡ header bs) × (im.memory.now ≡ drop 28 bs)
 ReadAs bs (Err e) = refusal bs ≡ Some (as_no e)
-
--- word i of a row of bytes, none exactly if the row ends before it does
-abbrev pub WordIs : List ℕ → ℕ → Option ℕ → Type 0
-WordIs bs i r = (4 * i + 3 < length bs → r ≡ Some (word_at bs i)) × (length bs ≤ 4 * i + 3 → r ≡ None)

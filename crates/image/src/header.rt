@@ -3,7 +3,7 @@ ghost use Rattle.std.specs.Prelude.{◌≡◌, ◌≤◌, length};
 ghost use Rattle.image.specs.Image.{Judged, between, addresses, header as header_of};
 
 use crate::Refusal;
-use crate::words::word_at;
+use memory::bytes::word_at;
 
 /// The length of a header.
 pub const HEADER_BYTES: usize = 28;
@@ -40,13 +40,13 @@ impl Header {
         ensures { result ≡ header_of bytes.now }
     {
         Header {
-            words: word_at(bytes, 0),
-            text: word_at(bytes, 1),
-            given: word_at(bytes, 2),
-            entry: word_at(bytes, 3),
-            period: word_at(bytes, 4),
-            outputs: word_at(bytes, 5),
-            limit: word_at(bytes, 6),
+            words: word_at(bytes, 0).unwrap(),
+            text: word_at(bytes, 1).unwrap(),
+            given: word_at(bytes, 2).unwrap(),
+            entry: word_at(bytes, 3).unwrap(),
+            period: word_at(bytes, 4).unwrap(),
+            outputs: word_at(bytes, 5).unwrap(),
+            limit: word_at(bytes, 6).unwrap(),
         }
     }
 

@@ -2,14 +2,14 @@
 #![tactic(auto)]
 
 pub mod header;
-mod words;
 
 ghost use Rattle.std.specs.Prelude.{◌≡◌};
-ghost use Rattle.image.specs.Image.{ReadAs, WordIs};
+ghost use Rattle.image.specs.Image.{ReadAs};
 ghost use Rattle.image.specs.Refusals.{number as refusal_number};
+ghost use Rattle.memory.specs.Bytes.{WordIs};
 
 use crate::header::{HEADER_BYTES, Header};
-use crate::words::word_at;
+use memory::bytes::word_at;
 
 /// Why a row of bytes is no image.
 #[derive(Clone, Copy, PartialEq, Eq, Debug)]
@@ -73,9 +73,6 @@ impl<'a> Image<'a> {
     pub fn word(&self, index: usize) -> Option<u32>
         ensures { WordIs self.now.memory.now index result }
     {
-        if index >= self.memory.len() / 4 {
-            return None;
-        }
-        Some(word_at(self.memory, index))
+        word_at(self.memory, index)
     }
 }

@@ -2,10 +2,10 @@
 use Rattle.std.proofs.Common.{◌≡◌, ℕ, ◌+◌, ◌*◌, ◌<◌, ◌≤◌, ltb, ◌≢◌, List, length, drop, set, Some, None, sym, refl, ap, ◌∙◌, ⊎_elim, arith, length-set}
 use Rattle.std.proofs.lemmas.Bool.{cases_lt, cases_eq, lt-ltb, le-ltb, cond-true, cond-false}
 use Rattle.std.proofs.lemmas.List.{get_or-set_same, get_or-set_other, get_or_past, length-drop}
-use Rattle.memory.specs.Bytes.{word_at}
+use Rattle.memory.specs.Bytes.{word_at, WordIs}
 use Rattle.memory.specs.Contents.{Mem, word}
 use Rattle.memory.proofs.Contents.{fronted}
-use Rattle.image.specs.Image.{header, given_words, refusal, WordIs}
+use Rattle.image.specs.Image.{header, given_words, refusal}
 use Rattle.image.proofs.Accepted.{accepted}
 use Rattle.image.proofs.GivenWords.{word_after, given_length, given_at}
 use Rattle.machine.specs.Calls.{Filled, whole_words, with_image}
