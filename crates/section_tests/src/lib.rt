@@ -7,3 +7,5 @@ mod calls;
 mod model;
 #[cfg(test)]
 mod piles;
+#[cfg(test)]
+mod rows;
