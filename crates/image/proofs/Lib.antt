@@ -2,3 +2,4 @@ pub mod Questions
 pub mod Judgement
 pub mod Accepted
 pub mod GivenWords
+pub mod Rules

@@ -5,8 +5,9 @@ use Rattle.memory.specs.Contents.{words_from}
 use Rattle.image.specs.declared.Image.{Image}
 use Rattle.image.specs.declared.Refusal.{Refusal}
 use Rattle.image.specs.declared.header.Header.{Header}
+use Rattle.image.specs.declared.header.HeaderWord.{HeaderWord}
 use Rattle.image.specs.Questions.{No, Question, first_no}
-use Rattle.image.specs.Refusals.{as_no}
+use Rattle.image.specs.Refusals.{position, as_no}
 
 -- the header words, in their order
 unfoldable pub header : List ℕ → Header
@@ -48,6 +49,10 @@ header_questions h =
     ∷ (nat_le h.outputs 16384, bad 5)
     ∷ (nat_le 1 h.limit, bad 6)
     ∷ []
+
+-- whether the rule of a header word holds, as a question
+abbrev pub asked : Bool × HeaderWord → Question
+asked r = (r.0, bad (position r.1))
 
 -- the bytes are whole words, enough for a header
 unfoldable pub length_question : List ℕ → Question

@@ -1,14 +1,16 @@
 // The first seven words of an image.
-ghost use Rattle.std.specs.Prelude.{◌≡◌, ◌≤◌, length};
-ghost use Rattle.image.specs.Image.{Judged, between, addresses, header as header_of};
+ghost use Rattle.std.specs.Prelude.{◌≡◌, ◌≤◌, length, map, Some};
+ghost use Rattle.image.specs.Image.{Judged, addresses, asked, header as header_of, header_questions};
+ghost use Rattle.image.specs.Refusals.{position as position_of, rule};
 
 use crate::Refusal;
 use memory::bytes::word_at;
+use std::fmt;
 
 /// The length of a header.
 pub const HEADER_BYTES: usize = 28;
 
-const MOST_WORDS: u32 = 16384;
+const MOST_WORDS: u32 = memory::MOST_WORDS as u32;
 
 const LONGEST_PERIOD: u32 = 65535;
 
@@ -33,6 +35,46 @@ pub struct Header {
     pub limit: u32,
 }
 
+/// A header word, in the header's order.
+#[derive(Clone, Copy, PartialEq, Eq, Debug)]
+pub enum HeaderWord {
+    Words,
+    Text,
+    Given,
+    Entry,
+    Period,
+    Outputs,
+    Limit,
+}
+
+impl HeaderWord {
+    /// The word's place in the header, from 0.
+    pub fn position(self) -> u32
+        ensures { result ≡ position_of self }
+    {
+        self as u32
+    }
+}
+
+/// Tells the rule that the word breaks.
+impl fmt::Display for HeaderWord {
+    ghost output = { λ w. Some (rule w) };
+
+    fn fmt<W: fmt::Write>(&self, f: &mut fmt::Formatter<W>) -> fmt::Result {
+        f.write_str(match self {
+            HeaderWord::Words => "the memory size is not 1 to 16384 words",
+            HeaderWord::Text => "the text size is 0 or above the memory size",
+            HeaderWord::Given => {
+                "the memory words given are fewer than the text or more than the memory"
+            }
+            HeaderWord::Entry => "the entry is not a multiple of 4 inside the text",
+            HeaderWord::Period => "the watchdog period is not 1 to 65535 instructions",
+            HeaderWord::Outputs => "the most outputs are above 16384",
+            HeaderWord::Limit => "the most instructions are 0",
+        })
+    }
+}
+
 impl Header {
     // The header that the bytes begin with.
     pub(crate) fn of(bytes: &[u8]) -> Header
@@ -50,42 +92,40 @@ impl Header {
         }
     }
 
-    // Refuses the first word that breaks its rule; each is judged by those before it.
+    // Refuses the first word that breaks its rule.
     pub(crate) fn check(&self) -> Result<(), Refusal>
         ensures { Judged self.now result }
     {
-        if !is_between(1, self.words, MOST_WORDS) {
-            return Err(Refusal::Header(0));
+        match self.rules().iter().find(|(holds, _)| !*holds) {
+            Some(&(_, word)) => Err(Refusal::Header(word)),
+            None => Ok(()),
         }
-        if !is_between(1, self.text, self.words) {
-            return Err(Refusal::Header(1));
-        }
-        if !is_between(self.text, self.given, self.words) {
-            return Err(Refusal::Header(2));
-        }
-        if !is_address(self.entry, self.text) {
-            return Err(Refusal::Header(3));
-        }
-        if !is_between(1, self.period, LONGEST_PERIOD) {
-            return Err(Refusal::Header(4));
-        }
-        if self.outputs > MOST_OUTPUTS {
-            return Err(Refusal::Header(5));
-        }
-        if self.limit < 1 {
-            return Err(Refusal::Header(6));
-        }
-        Ok(())
+    }
+
+    // Whether the words keep their rules; each is judged by those before it.
+    fn rules(&self) -> [(bool, HeaderWord); 7]
+        ensures { map asked result ≡ header_questions self.now }
+    {
+        [
+            ((1..=MOST_WORDS).contains(&self.words), HeaderWord::Words),
+            ((1..=self.words).contains(&self.text), HeaderWord::Text),
+            (
+                (self.text..=self.words).contains(&self.given),
+                HeaderWord::Given,
+            ),
+            (is_address(self.entry, self.text), HeaderWord::Entry),
+            (
+                (1..=LONGEST_PERIOD).contains(&self.period),
+                HeaderWord::Period,
+            ),
+            (self.outputs <= MOST_OUTPUTS, HeaderWord::Outputs),
+            (self.limit >= 1, HeaderWord::Limit),
+        ]
     }
 }
 
-fn is_between(low: u32, value: u32, high: u32) -> bool
-    ensures { result ≡ between low value high }
-{
-    low <= value && value <= high
-}
-
 // Whether the address is that of one of the first `count` words.
+#[tactic(auto, unfolding(crate::specs::Image::addresses))]
 fn is_address(address: u32, count: u32) -> bool
     ensures { result ≡ addresses address count }
 {

@@ -3,21 +3,23 @@
 
 pub mod header;
 
-ghost use Rattle.std.specs.Prelude.{◌≡◌};
+ghost use Rattle.std.specs.Prelude.{◌≡◌, Some};
 ghost use Rattle.image.specs.Image.{ReadAs};
-ghost use Rattle.image.specs.Refusals.{number as refusal_number};
+ghost use Rattle.image.specs.Refusals.{number as refusal_number, reason};
 ghost use Rattle.memory.specs.Bytes.{WordIs};
 
-use crate::header::{HEADER_BYTES, Header};
+use crate::header::{HEADER_BYTES, Header, HeaderWord};
 use memory::bytes::word_at;
+use std::error::Error;
+use std::fmt;
 
 /// Why a row of bytes is no image.
 #[derive(Clone, Copy, PartialEq, Eq, Debug)]
 pub enum Refusal {
     /// the length is no multiple of 4, or too short for a header
     Length,
-    /// the header word with this number breaks its rule
-    Header(u32),
+    /// this header word breaks its rule
+    Header(HeaderWord),
     /// the length is not the one that the header gives
     Size,
 }
@@ -34,6 +36,24 @@ impl Refusal {
         }
     }
 }
+
+impl fmt::Display for Refusal {
+    ghost output = { λ e. Some (reason e) };
+
+    fn fmt<W: fmt::Write>(&self, f: &mut fmt::Formatter<W>) -> fmt::Result {
+        match self {
+            Refusal::Length => {
+                f.write_str("the length is not a multiple of 4, or less than 28 bytes")
+            }
+            Refusal::Header(word) => write!(f, "{word}"),
+            Refusal::Size => {
+                f.write_str("the length is not 28 bytes and 4 for each memory word given")
+            }
+        }
+    }
+}
+
+impl Error for Refusal {}
 
 /// An accepted image.
 #[derive(Clone, Copy)]

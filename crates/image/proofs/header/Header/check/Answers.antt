@@ -1,74 +1,15 @@
-use Rattle.std.proofs.Common.{◌≡◌, Bool, sym, ◌∙◌}
-use Rattle.image.proofs.Judgement.{bad_words, bad_text, bad_given, bad_entry, bad_period, bad_outputs, bad_limit, good_header}
+use Rattle.std.proofs.Common.{sym, ap, ◌∙◌, rules}
+use Rattle.std.proofs.lemmas.Iterator.{YieldsList-from_slice, first_from_find}
+use Rattle.image.specs.Questions.{first_no}
+use Rattle.image.proofs.Rules.{Holds, Fails, first_asked}
 use Rattle.image.proofs.header.Header.check.Goals as goal
 
--- what a call's answer says of the test that it stands for
-answer : {r test b : Bool} → r ≡ test → r ≡ b → test ≡ b
-answer is was = sym is ∙ was
+pub returns-in-Some : goal.returns-in-Some
+returns-in-Some c =
+    let first = first_asked _ _ (first_from_find _ _ _ Fails Holds c.find.ensures.ran (YieldsList-from_slice c.rules.result c.iter.ensures.rest) (λ x q k. search rules) (λ x q k. search rules)) in
+    ap first_no (sym c.rules.ensures) ∙ (rw c.in-Some.is at first)
 
-pub returns-then-not-is_between : goal.returns-then-not-is_between
-returns-then-not-is_between c =
-    bad_words c.args.self.now
-    (answer c.is_between.ensures c.if-not-is_between.true)
-
-pub returns-then-not-is_between-2 : goal.returns-then-not-is_between-2
-returns-then-not-is_between-2 c =
-    bad_text c.args.self.now
-    (answer c.is_between.ensures c.if-not-is_between.false)
-    (answer c.is_between-2.ensures c.if-not-is_between-2.true)
-
-pub returns-then-not-is_between-3 : goal.returns-then-not-is_between-3
-returns-then-not-is_between-3 c =
-    bad_given c.args.self.now
-    (answer c.is_between.ensures c.if-not-is_between.false)
-    (answer c.is_between-2.ensures c.if-not-is_between-2.false)
-    (answer c.is_between-3.ensures c.if-not-is_between-3.true)
-
-pub returns-then-not-is_address : goal.returns-then-not-is_address
-returns-then-not-is_address c =
-    bad_entry c.args.self.now
-    (answer c.is_between.ensures c.if-not-is_between.false)
-    (answer c.is_between-2.ensures c.if-not-is_between-2.false)
-    (answer c.is_between-3.ensures c.if-not-is_between-3.false)
-    (answer c.is_address.ensures c.if-not-is_address.true)
-
-pub returns-then-not-is_between-4 : goal.returns-then-not-is_between-4
-returns-then-not-is_between-4 c =
-    bad_period c.args.self.now
-    (answer c.is_between.ensures c.if-not-is_between.false)
-    (answer c.is_between-2.ensures c.if-not-is_between-2.false)
-    (answer c.is_between-3.ensures c.if-not-is_between-3.false)
-    (answer c.is_address.ensures c.if-not-is_address.false)
-    (answer c.is_between-4.ensures c.if-not-is_between-4.true)
-
-pub returns-then-self-gt-MOST_OUTPUTS : goal.returns-then-self-gt-MOST_OUTPUTS
-returns-then-self-gt-MOST_OUTPUTS c =
-    bad_outputs c.args.self.now
-    (answer c.is_between.ensures c.if-not-is_between.false)
-    (answer c.is_between-2.ensures c.if-not-is_between-2.false)
-    (answer c.is_between-3.ensures c.if-not-is_between-3.false)
-    (answer c.is_address.ensures c.if-not-is_address.false)
-    (answer c.is_between-4.ensures c.if-not-is_between-4.false)
-    c.if-self-gt-MOST_OUTPUTS.true
-
-pub returns-then-self-lt1 : goal.returns-then-self-lt1
-returns-then-self-lt1 c =
-    bad_limit c.args.self.now
-    (answer c.is_between.ensures c.if-not-is_between.false)
-    (answer c.is_between-2.ensures c.if-not-is_between-2.false)
-    (answer c.is_between-3.ensures c.if-not-is_between-3.false)
-    (answer c.is_address.ensures c.if-not-is_address.false)
-    (answer c.is_between-4.ensures c.if-not-is_between-4.false)
-    c.if-self-gt-MOST_OUTPUTS.false
-    c.if-self-lt1.true
-
-pub returns : goal.returns
-returns c =
-    good_header c.args.self.now
-    (answer c.is_between.ensures c.if-not-is_between.false)
-    (answer c.is_between-2.ensures c.if-not-is_between-2.false)
-    (answer c.is_between-3.ensures c.if-not-is_between-3.false)
-    (answer c.is_address.ensures c.if-not-is_address.false)
-    (answer c.is_between-4.ensures c.if-not-is_between-4.false)
-    c.if-self-gt-MOST_OUTPUTS.false
-    c.if-self-lt1.false
+pub returns-in-None : goal.returns-in-None
+returns-in-None c =
+    let first = first_asked _ _ (first_from_find _ _ _ Fails Holds c.find.ensures.ran (YieldsList-from_slice c.rules.result c.iter.ensures.rest) (λ x q k. search rules) (λ x q k. search rules)) in
+    ap first_no (sym c.rules.ensures) ∙ (rw c.in-None.is at first)
