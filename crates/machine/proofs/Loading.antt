@@ -1,6 +1,7 @@
 -- The questions of a load.
-use Rattle.std.proofs.Common.{◌≡◌, ℕ, ◌<◌, ◌≤◌, true, false, leb, ◌⊎◌, List, [], ◌∷◌, Some, None, ◌∙◌, ⊎_elim}
-use Rattle.std.proofs.lemmas.Bool.{le-leb, lt-leb, leb-true, and_right, and_parts}
+use Rattle.std.proofs.Common.{◌≡◌, ℕ, ◌≤◌, true, false, ◌&&◌, leb, List, [], ◌∷◌, Some, None, ◌∙◌, arith}
+use Rattle.std.proofs.lemmas.Bool.{le-leb, leb-true, and_parts}
+use Rattle.std.proofs.lemmas.Bool.Decides.{nat_tests}
 use Rattle.image.specs.Questions.{No, first_no}
 use Rattle.image.specs.Image.{header, image_questions, refusal}
 use Rattle.image.proofs.Questions.{after_yes, at_no, all_yes, append_yes, append_no, append_parts}
@@ -16,11 +17,10 @@ module _ (bs : List ℕ) (words log : ℕ) where
     unfolding refusal load_refusal
     then_asks = append_yes (image_questions bs) (memories_question bs words log ∷ []) ok
 
-    pub too_small : (words < (header bs).words) ⊎ (log < (header bs).outputs) → load_refusal bs words log ≡ Some (7, [])
-    too_small h = then_asks ∙ at_no _ (7, []) [] (⊎_elim
-        (λ (l : words < (header bs).words). let e : leb (header bs).words words ≡ false = lt-leb _ _ l in rw e)
-        (λ (l : log < (header bs).outputs). let e : leb (header bs).outputs log ≡ false = lt-leb _ _ l in and_right (leb (header bs).words words) _ e)
-        h)
+    pub too_small : (((header bs).words ≤ words) × ((header bs).outputs ≤ log) → ⊥) → load_refusal bs words log ≡ Some (7, [])
+    too_small small =
+        let wrong : (leb (header bs).words words && leb (header bs).outputs log) ≡ false = grind (arith, nat_tests) in
+        then_asks ∙ at_no _ (7, []) [] wrong
 
     pub large_enough : (header bs).words ≤ words → (header bs).outputs ≤ log → load_refusal bs words log ≡ None
     large_enough h k =

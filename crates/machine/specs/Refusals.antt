@@ -1,5 +1,5 @@
--- The number of each refusal of the machine, and its values; and the questions that give them, in order.
-use Rattle.std.specs.Prelude.{ℕ, ◌&&◌, List, [], ◌∷◌, ◌++◌, Option, nat_le}
+-- The number of each refusal of the machine, its values, and its reason in plain words; and the questions that give them, in order.
+use Rattle.std.specs.Prelude.{ℕ, ◌&&◌, List, [], ◌∷◌, ◌++◌, Option, nat_le, codes}
 use Rattle.image.specs.Questions.{No, Question, first_no}
 use Rattle.image.specs.Image.{header, image_questions}
 use Rattle.image.specs.Refusals as image
@@ -16,6 +16,10 @@ values TooSmall = []
 
 abbrev pub as_no : Refusal → No
 as_no e = (number e, values e)
+
+abbrev pub reason : Refusal → List ℕ
+reason (Image e) = image.reason e
+reason TooSmall = codes "a memory has too few words for the image"
 
 -- the memory has the image's words, and the log its outputs
 abbrev pub memories_question : List ℕ → ℕ → ℕ → Question

@@ -1,16 +1,18 @@
 // The uninterrupted machine: an image executed without cuts, over any memory for its words and any for its outputs.
 #![tactic(auto)]
 
-mod accesses;
 pub mod execute;
 pub mod load;
 pub mod step;
 
-ghost use Rattle.std.specs.Prelude.{◌≡◌};
-ghost use Rattle.machine.specs.Refusals.{number as refusal_number};
+ghost use Rattle.std.specs.Prelude.{◌≡◌, Some};
+ghost use Rattle.machine.specs.Refusals.{number as refusal_number, reason};
+ghost use Rattle.machine.specs.declared.Refusal.TheVariants.{Image as ImageRefused};
 
 use hart::action::{Limits, Stop};
 use hart::state::Core;
+use std::error::Error;
+use std::fmt;
 
 /// What the machine refuses.
 #[derive(Clone, Copy, PartialEq, Eq, Debug)]
@@ -32,6 +34,27 @@ impl Refusal {
         }
     }
 }
+
+impl From<image::Refusal> for Refusal {
+    ghost from_gives = { λ e r. r ≡ ImageRefused e };
+
+    fn from(error: image::Refusal) -> Refusal {
+        Refusal::Image(error)
+    }
+}
+
+impl fmt::Display for Refusal {
+    ghost output = { λ e. Some (reason e) };
+
+    fn fmt<W: fmt::Write>(&self, f: &mut fmt::Formatter<W>) -> fmt::Result {
+        match self {
+            Refusal::Image(refusal) => write!(f, "{refusal}"),
+            Refusal::TooSmall => f.write_str("a memory has too few words for the image"),
+        }
+    }
+}
+
+impl Error for Refusal {}
 
 /// A machine between two steps, beside its memory and its log.
 #[derive(Clone, Copy, PartialEq, Eq, Debug)]

@@ -2,23 +2,14 @@
 ghost use Rattle.std.specs.Prelude.{◌≡◌, ◌≤◌, length};
 ghost use Rattle.machine.specs.Calls.{Load, Filled, whole_words};
 ghost use Rattle.machine.specs.Run.{limits_of};
-ghost use Rattle.machine.specs.declared.Refusal.TheVariants.{Image as ImageRefused};
 
-use crate::accesses::put_at;
 use crate::{Machine, Refusal};
 use hart::action::Limits;
 use hart::state::Core;
 use image::Image;
 use image::header::Header;
 use memory::Memory;
-
-impl From<image::Refusal> for Refusal {
-    ghost from_gives = { λ e r. r ≡ ImageRefused e };
-
-    fn from(refusal: image::Refusal) -> Refusal {
-        Refusal::Image(refusal)
-    }
-}
+use memory::access::put_at;
 
 impl Machine {
     /// Puts an image's words into the memory, zeros after them up to the image's size, and answers the machine at the start of
@@ -33,20 +24,17 @@ impl Machine {
     {
         let image = Image::read(bytes)?;
         let header = image.header();
-        let words = (*memory).size();
-        let outputs = log.size();
-        if words < header.words as usize || outputs < header.outputs as usize {
-            return Err(Refusal::TooSmall);
-        }
-        put_words(&image, header.words, memory);
-        Ok(Machine {
+        let machine = Machine {
             limits: limits(header),
             core: Core::start(header.entry),
-        })
+        };
+        machine.check_sizes(memory, log)?;
+        put_words(&image, header.words, memory);
+        Ok(machine)
     }
 }
 
-// The numbers of a header that bound a run.
+// The numbers of a header that bound a run. No `From`, since both types are of other crates.
 fn limits(header: Header) -> Limits
     ensures { result ≡ limits_of header }
 {
@@ -64,16 +52,7 @@ fn put_words<M: Memory>(image: &Image<'_>, count: u32, memory: &mut M)
     ensures words { Filled (whole_words image.now.memory.now) count (M.Memory.words memory.old) (M.Memory.words memory.new) }
     ensures home { M.Memory.fixed memory.new ≡ M.Memory.fixed memory.old }
 {
-    for i in 0..count {
-        put_at(memory, i, word_or_zero(image, i));
-    }
-}
-
-fn word_or_zero(image: &Image<'_>, index: u32) -> u32
-    ensures { result ≡ whole_words image.now.memory.now index }
-{
-    match image.word(index as usize) {
-        Some(word) => word,
-        None => 0,
+    for i in 0..count as usize {
+        put_at(memory, i, image.word(i).unwrap_or(0));
     }
 }

@@ -3,13 +3,14 @@ ghost use Rattle.std.specs.Prelude.{◌≡◌, ◌≤◌, [], length, MatchResul
 ghost use Rattle.machine.specs.Refusals.{as_no};
 ghost use Rattle.machine.specs.Calls.{Fits, Advanced, Step, Run};
 
-use crate::accesses::{put_at, word_at};
 use crate::{Machine, Refusal};
 use hart::action::{Action, Stop};
 use hart::plan::plan;
 use memory::Memory;
+use memory::access::{put_at, word_at};
 use memory::lanes::merge;
 
+// Memory and log are lent at each call and are no part of the machine, as a bus is not: their owner looks at them between calls.
 impl Machine {
     /// One step: the reason where the machine stops, which changes nothing; otherwise one instruction.
     pub fn step<M: Memory, L: Memory>(
@@ -44,7 +45,11 @@ impl Machine {
     }
 
     // Refuses memories that are too small for the limits.
-    fn check_sizes<M: Memory, L: Memory>(&self, memory: &M, log: &L) -> Result<(), Refusal>
+    pub(crate) fn check_sizes<M: Memory, L: Memory>(
+        &self,
+        memory: &M,
+        log: &L,
+    ) -> Result<(), Refusal>
         ensures sizes { MatchResult result (λ _. Fits self.now.limits (M.Memory.words memory.now) (L.Memory.words log.now)) (λ e. (as_no e ≡ (7, [])) × (Fits self.now.limits (M.Memory.words memory.now) (L.Memory.words log.now) → ⊥)) }
         ensures few { length (L.Memory.words log.now) ≤ 16384 }
     {
@@ -65,7 +70,7 @@ impl Machine {
         ensures memory_home { M.Memory.fixed memory.new ≡ M.Memory.fixed memory.old }
         ensures log_home { L.Memory.fixed log.new ≡ L.Memory.fixed log.old }
     {
-        let word = word_at(memory, self.core.hart.pc / 4);
+        let word = word_at(memory, (self.core.hart.pc / 4) as usize);
         match plan(self.limits, &self.core, word) {
             Action::Halt(stop) => Some(stop),
             Action::Next { pc, rd, value } => {
@@ -78,18 +83,18 @@ impl Machine {
                 index,
                 byte,
             } => {
-                let word = word_at(memory, index);
+                let word = word_at(memory, index as usize);
                 self.core.retire_load(kind, rd, byte, word);
                 None
             }
             Action::Store { index, word, lanes } => {
-                let merged = merge(word_at(memory, index), word, lanes);
-                put_at(memory, index, merged);
+                let merged = merge(word_at(memory, index as usize), word, lanes);
+                put_at(memory, index as usize, merged);
                 self.core.retire_store();
                 None
             }
             Action::Output(word) => {
-                put_at(log, self.core.sent, word);
+                put_at(log, self.core.sent as usize, word);
                 self.core.retire_output();
                 None
             }
