@@ -1,44 +1,27 @@
 -- The set of what is in a row, and one index more at its end.
-use Rattle.std.specs.Prelude.{◌≡◌, ℕ, zero, suc, ◌+◌, ◌<◌, true, false, ◌≢◌, List, [], ◌∷◌, ◌++◌, length, take, ◌==◌, slice_index, slice_index_or, slice_set, refl}
+use Rattle.std.specs.Prelude.{◌≡◌, ℕ, ◌+◌, ◌<◌, true, false, ◌≢◌, List, [], ◌∷◌, ◌++◌, length, take, ◌==◌, Some, None, Option, is_some, slice_index, slice_index_or, slice_set}
 use Rattle.std.proofs.Common.{sym, ap, ◌∙◌, ⊎_elim, arith}
-use Rattle.std.proofs.lemmas.Bool.{eq-eqb, ne_eqb, cases_eq, false≢true, or_left}
+use Rattle.std.proofs.lemmas.Bool.{eq-eqb, ne_eqb, cases_eq, false≢true}
 use Rattle.std.proofs.lemmas.Bool.Decides.{nat_tests}
-use Rattle.std.proofs.lemmas.List.{get_or-set_same, get_or-set_other, get_or-take, length-take, take_more_set}
-use Rattle.index_sets.specs.Sets.{IndexTest, joined, among}
-use Rattle.index_sets.specs.Among.{or_no, among_tail}
-
-pub among_head : (xs : List ℕ) (x : ℕ) → among (x ∷ xs) x ≡ true
-among_head xs x = or_left (x == x) (among xs x) (eq-eqb x x refl)
+use Rattle.std.proofs.lemmas.List.{get_or-set_same, get_or-set_other, get_or-take, get_or_default, length-take, take_more_set}
+use Rattle.std.proofs.lemmas.List.Folds.{list_any_at, list_any_none, list_any-append}
+use Rattle.index_sets.specs.Finding.{Found}
+use Rattle.index_sets.specs.Sets.{joined, among}
 
 pub among_at : (xs : List ℕ) (j i : ℕ) → j < length xs → slice_index xs j ≡ i → among xs i ≡ true
-among_at [] j i h e = absurd (omega arith)
-among_at (x ∷ xs) zero i h e = or_left (i == x) (among xs i) (eq-eqb i x (sym e))
-among_at (x ∷ xs) (suc j) i h e =
-    ⊎_elim (λ p. or_left (i == x) (among xs i) (eq-eqb i x p))
-    (λ ne. among_tail xs x i ne ∙ among_at xs j i (omega arith) e)
-    (cases_eq i x)
+among_at xs j i h e = list_any_at (λ x. i == x) xs j 0 h (eq-eqb i (slice_index xs j) (sym e))
 
-pub among_none : (xs : List ℕ) (i : ℕ) → ((j : ℕ) → j < length xs → slice_index xs j ≢ i) → among xs i ≡ false
-among_none [] i h = refl
-among_none (x ∷ xs) i h =
-    among_tail xs x i (λ e. h zero (omega arith) (sym e))
-    ∙ among_none xs i (λ j k e. h (suc j) (omega arith) e)
+-- whether a place was found tells whether the index is in the set
+pub among_found : (xs : List ℕ) (i : ℕ) (r : Option ℕ) → Found xs i r → is_some r ≡ among xs i
+among_found xs i (Some k) f = sym (among_at xs k i f.0 f.1)
+among_found xs i None f =
+    sym (list_any_none (λ x. i == x) xs (λ k d l. ne_eqb i _ (λ e. f k l (get_or_default xs k 0 d l ∙ sym e))))
 
 among_push_at : (xs : List ℕ) (i k : ℕ) → among (xs ++ i ∷ []) k ≡ joined (among xs) i k
-among_push_at [] i k = refl
-among_push_at (x ∷ xs) i k = let h = among_push_at xs i k in grind (arith, nat_tests)
+among_push_at xs i k = let h = list_any-append (λ x. k == x) xs (i ∷ []) in grind (arith, nat_tests)
 
 pub among_push : (xs : List ℕ) (i : ℕ) → among (xs ++ i ∷ []) ≡ joined (among xs) i
 among_push xs i = λ p k. among_push_at xs i k p
-
-joined_in_at : (m : IndexTest) (i k : ℕ) → m i ≡ true → m k ≡ joined m i k
-joined_in_at m i k e =
-    ⊎_elim (λ q. ap m q ∙ e ∙ sym (or_left (k == i) (m k) (eq-eqb k i q)))
-    (λ ne. sym (or_no (k == i) (m k) (ne_eqb k i ne)))
-    (cases_eq k i)
-
-pub joined_in : (m : IndexTest) (i : ℕ) → m i ≡ true → m ≡ joined m i
-joined_in m i e = λ p k. joined_in_at m i k e p
 
 -- ---- one index more at the end of a row in use up to n
 module _ (xs : List ℕ) (n i : ℕ) (room : n < length xs) where

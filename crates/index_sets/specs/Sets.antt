@@ -1,5 +1,7 @@
 -- What an index set means: by a test of membership.
-use Rattle.std.specs.Prelude.{◌≡◌, ℕ, ◌/◌, ◌%◌, ◌^◌, ◌<◌, ◌≤◌, Bool, true, false, ◌&&◌, ◌||◌, List, [], ◌∷◌, Ok, Err, Result, ◌==◌, nat_lt, slice_index}
+use Rattle.std.specs.Prelude.{◌≡◌, ℕ, ◌/◌, ◌%◌, ◌<◌, ◌≤◌, Bool, true, false, ◌&&◌, ◌||◌, List, Ok, Err, Result, ◌==◌, nat_lt, slice_index}
+use Rattle.std.specs.Int.{bit_at}
+use Rattle.std.specs.List.{list_any}
 use Rattle.index_sets.specs.declared.Refusal.{Refusal}
 use Rattle.index_sets.specs.Refusals.{number, Refused}
 
@@ -29,9 +31,8 @@ Took m i r m' = (16384 ≤ i → Refused 20 r × (m' ≡ m)) × (i < 16384 → T
 
 -- the set of what is in a list
 abbrev pub among : List ℕ → IndexTest
-among [] k = false
-among (x ∷ xs) k = k == x || among xs k
+among xs k = list_any (λ x. k == x) xs
 
 -- the set of the indexes below 16,384 whose bits are set in a row of words
 abbrev pub marked : List ℕ → IndexTest
-marked ws i = nat_lt i 16384 && slice_index ws (i / 32) / 2 ^ (i % 32) % 2 == 1
+marked ws i = nat_lt i 16384 && bit_at (slice_index ws (i / 32)) (i % 32) == 1

@@ -24,10 +24,5 @@ impl Entry for u32 {
 pub fn find<E: Entry>(entries: &[E], index: usize) -> Option<usize>
     ensures { Found (map E.Entry.key entries.now) index result }
 {
-    for (k, e) in entries.iter().enumerate() {
-        if e.index() == index {
-            return Some(k);
-        }
-    }
-    None
+    entries.iter().position(|e| e.index() == index)
 }

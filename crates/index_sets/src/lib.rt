@@ -16,9 +16,9 @@ pub const MOST_INDEXES: usize = 16384;
 #[derive(Clone, Copy, PartialEq, Eq, Debug)]
 pub enum Refusal {
     /// the index is not below 16,384
-    OutOfRange,
+    OutOfRange = 20,
     /// there is no place for one more index
-    Full,
+    Full = 22,
 }
 
 impl Refusal {
@@ -26,10 +26,7 @@ impl Refusal {
     pub fn number(self) -> u32
         ensures { result ≡ refusal_number self }
     {
-        match self {
-            Refusal::OutOfRange => 20,
-            Refusal::Full => 22,
-        }
+        self as u32
     }
 }
 

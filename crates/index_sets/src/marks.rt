@@ -6,6 +6,8 @@ ghost use Rattle.std.proofs.Common.{rules};
 use crate::{IndexSet, MOST_INDEXES, Refusal};
 
 /// One bit for each index below 16,384: index i has bit i mod 32 of word i div 32.
+///
+/// A row of words, and no set of the library: marks have fixed memory, and so never refuse an index for want of it.
 #[derive(Clone, Copy)]
 pub struct Marks {
     words: [u32; 512],
@@ -26,10 +28,7 @@ impl IndexSet for Marks {
     ghost below = { Prim.search rules };
 
     fn has(&self, index: usize) -> bool {
-        if index >= MOST_INDEXES {
-            return false;
-        }
-        self.words[index / 32] >> (index % 32) & 1 == 1
+        index < MOST_INDEXES && self.words[index / 32] >> (index % 32) & 1 == 1
     }
 
     /// Never refuses 22.
@@ -40,12 +39,11 @@ impl IndexSet for Marks {
         if index >= MOST_INDEXES {
             return Err(Refusal::OutOfRange);
         }
-        let word = self.words[index / 32];
-        self.words[index / 32] = word | (1 << (index % 32));
+        self.words[index / 32] |= 1 << (index % 32);
         Ok(())
     }
 
     fn clear(&mut self) {
-        self.words = [0; 512];
+        *self = Marks::new();
     }
 }

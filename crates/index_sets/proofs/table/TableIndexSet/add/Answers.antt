@@ -1,24 +1,20 @@
-use Rattle.std.proofs.Common.{◌<◌, length, get_or, take, sym, refl, arith}
+use Rattle.std.proofs.Common.{◌<◌, length, get_or, sym, refl, arith}
 use Rattle.std.proofs.lemmas.List.{length-take}
+use Rattle.index_sets.specs.Tables.{indexes}
 use Rattle.index_sets.proofs.Among.{among_at, small_push, apart_push, among_more}
 use Rattle.index_sets.proofs.table.TableIndexSet.add.Goals as goal
 
-pub returns-then-len-ge-ROOM : goal.returns-then-len-ge-ROOM
-returns-then-len-ge-ROOM c =
-    let xs = take c.args.self.now.len c.args.self.now.items in
-    record {
-      took = (
-        (λ h. absurd (omega arith)),
-        λ _. (
-          refl,
-          sym c.if-has.ensures,
-          (get_or xs 0 0, among_at xs 0 (get_or xs 0 0) (simp length-take (omega arith)) refl),
-          refl,
-        ),
-      );
-      full = λ _ _ _. refl;
-      room = λ _ h. absurd (omega arith);
-    }
+pub returns-then-self-ge-ROOM-clause-took : goal.returns-then-self-ge-ROOM-clause-took
+returns-then-self-ge-ROOM-clause-took c =
+    let xs = indexes c.args.self.now in (
+      (λ h. absurd (omega arith)),
+      λ _. (
+        refl,
+        sym c.if-has.ensures,
+        (get_or xs 0 0, among_at xs 0 (get_or xs 0 0) (simp length-take (omega arith)) refl),
+        refl,
+      ),
+    )
 
 pub invariant_of-self : goal.invariant_of-self
 invariant_of-self c =
@@ -29,11 +25,5 @@ invariant_of-self c =
       apart = apart_push _ _ _ room (sym c.if-has.ensures) c.args.self.now.apart;
     }
 
-pub returns : goal.returns
-returns c =
-    let room : c.args.self.now.len < length c.args.self.now.items = omega arith in
-    record {
-      took = ((λ h. absurd (omega arith)), λ _. among_more _ _ _ room);
-      full = λ _ _ h. absurd (omega arith);
-      room = λ _ _. refl;
-    }
+pub returns-clause-took : goal.returns-clause-took
+returns-clause-took c = ((λ h. absurd (omega arith)), λ _. among_more _ _ _ (omega arith))

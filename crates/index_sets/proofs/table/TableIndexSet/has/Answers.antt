@@ -1,9 +1,6 @@
-use Rattle.std.proofs.Common.{sym}
-use Rattle.index_sets.proofs.Among.{among_at, among_none}
+use Rattle.std.proofs.Common.{◌∙◌}
+use Rattle.index_sets.proofs.Among.{among_found}
 use Rattle.index_sets.proofs.table.TableIndexSet.has.Goals as goal
 
-pub returns-in-Some : goal.returns-in-Some
-returns-in-Some c = let e = c.in-Some.ensures in sym (among_at _ _ _ e.0 e.1)
-
-pub returns-in-None : goal.returns-in-None
-returns-in-None c = sym (among_none _ _ c.in-None.ensures)
+pub returns : goal.returns
+returns c = c.is_some.ensures ∙ among_found _ _ _ c.place.ensures

@@ -1,5 +1,0 @@
-use Rattle.index_sets.proofs.Marking.{marked_none}
-use Rattle.index_sets.proofs.marks.MarksIndexSet.clear.Goals as goal
-
-pub returns : goal.returns
-returns c = marked_none
