@@ -1,5 +1,6 @@
 -- What a section memory means beside its words, and the facts where its calls have a meaning.
 use Rattle.std.specs.Prelude.{◌≡◌, ℕ, ◌<◌, ◌≤◌, true, cond, List, [], ◌∷◌, length, Some, None, Option, ◌==◌, ◌≢◌, slice_index}
+use Rattle.std.specs.Map.{lookup}
 use Rattle.index_sets.specs.Sets.{IndexTest, none}
 
 -- the read-first set R, the write-first set F, and the held pairs, each an index and a word
@@ -14,8 +15,7 @@ fresh = record { reads = none; writes = none; pairs = [] }
 
 -- the word held for i
 abbrev pub held : List (ℕ × ℕ) → ℕ → Option ℕ
-held [] i = None
-held (p ∷ ps) i = cond (i == p.0) (Some p.1) (held ps i)
+held ps i = lookup (λ k. i == k) ps
 
 abbrev pub or_word : Option ℕ → ℕ → ℕ
 or_word (Some w) d = w

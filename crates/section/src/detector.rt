@@ -94,7 +94,7 @@ impl<M: Memory, R: IndexSet, F: IndexSet> Section for Detector<M, R, F> {
     }
 
     fn read(&mut self, index: usize) -> Result<u32, Refusal>
-        ensures read { Meant 0 (sets R.IndexSet.member F.IndexSet.member self.old) (Unit {0}) → Read (M.Memory.words self.old.memory) (sets R.IndexSet.member F.IndexSet.member self.old) index result (M.Memory.words self.new.memory) (sets R.IndexSet.member F.IndexSet.member self.new) }
+        ensures read { Read (M.Memory.words self.old.memory) (sets R.IndexSet.member F.IndexSet.member self.old) index result (M.Memory.words self.new.memory) (sets R.IndexSet.member F.IndexSet.member self.new) }
         ensures facts { Meant 0 (sets R.IndexSet.member F.IndexSet.member self.old) (Unit {0}) → Meant 0 (sets R.IndexSet.member F.IndexSet.member self.new) (Unit {0}) }
         ensures home { M.Memory.fixed self.new.memory ≡ M.Memory.fixed self.old.memory }
         ensures detected { DetectedRead (M.Memory.words self.old.memory) (sets R.IndexSet.member F.IndexSet.member self.old) index result (sets R.IndexSet.member F.IndexSet.member self.new) }
@@ -106,20 +106,18 @@ impl<M: Memory, R: IndexSet, F: IndexSet> Section for Detector<M, R, F> {
         if self.reads.has(index) || self.writes.has(index) {
             return Ok(word);
         }
-        match self.reads.add(index) {
-            Ok(()) => Ok(word),
-            Err(_) => Err(Refusal::Due),
-        }
+        self.reads.add(index).map_err(|_| Refusal::Due)?;
+        Ok(word)
     }
 
     fn write(&mut self, index: usize, word: u32, lanes: u32) -> Result<(), Refusal>
-        ensures write { Meant 0 (sets R.IndexSet.member F.IndexSet.member self.old) (Unit {0}) → Write 0 (M.Memory.words self.old.memory) (sets R.IndexSet.member F.IndexSet.member self.old) index word lanes result (M.Memory.words self.new.memory) (sets R.IndexSet.member F.IndexSet.member self.new) }
+        ensures write { Write 0 (M.Memory.words self.old.memory) (sets R.IndexSet.member F.IndexSet.member self.old) index word lanes result (M.Memory.words self.new.memory) (sets R.IndexSet.member F.IndexSet.member self.new) }
         ensures facts { Meant 0 (sets R.IndexSet.member F.IndexSet.member self.old) (Unit {0}) → Meant 0 (sets R.IndexSet.member F.IndexSet.member self.new) (Unit {0}) }
         ensures home { M.Memory.fixed self.new.memory ≡ M.Memory.fixed self.old.memory }
         ensures detected { DetectedWrite (M.Memory.words self.old.memory) (sets R.IndexSet.member F.IndexSet.member self.old) index lanes result (sets R.IndexSet.member F.IndexSet.member self.new) }
     {
         let old = self.memory.look(index)?;
-        if lanes == 0 || lanes > 15 {
+        if !(1..=15).contains(&lanes) {
             return Err(Refusal::Lanes);
         }
         if self.reads.has(index) {

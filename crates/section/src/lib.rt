@@ -13,13 +13,13 @@ ghost use Rattle.section.specs.declared.Refusal.TheVariants.{OutOfRange};
 #[derive(Clone, Copy, PartialEq, Eq, Debug)]
 pub enum Refusal {
     /// the index is not below the size
-    OutOfRange,
+    OutOfRange = 20,
     /// a checkpoint is due before this access
-    Due,
+    Due = 21,
     /// lanes is not 1 to 15
-    Lanes,
+    Lanes = 23,
     /// there is no pair with this number
-    NoPair,
+    NoPair = 24,
 }
 
 impl Refusal {
@@ -27,12 +27,7 @@ impl Refusal {
     pub fn number(self) -> u32
         ensures { result ≡ refusal_number self }
     {
-        match self {
-            Refusal::OutOfRange => 20,
-            Refusal::Due => 21,
-            Refusal::Lanes => 23,
-            Refusal::NoPair => 24,
-        }
+        self as u32
     }
 }
 

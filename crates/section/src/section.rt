@@ -17,6 +17,7 @@ pub trait Section: Memory {
     /// The most pairs that it holds.
     const H: usize;
 
+    // A member of the name `H` would be proved equal to the constant, but the check cannot do so yet in an `impl` for a reference.
     /// the same number, for contracts
     ghost most: { ℕ };
 
