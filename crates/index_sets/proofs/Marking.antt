@@ -1,16 +1,13 @@
 -- The set of the marked indexes, and one mark more.
-use Rattle.std.specs.Prelude.{◌≡◌, ℕ, ◌*◌, ◌/◌, ◌%◌, ◌^◌, ◌<◌, ◌==◌, ◌≢◌, List, length, replicate, bit_or, bit_and, slice_index, slice_set}
+use Rattle.std.specs.Prelude.{◌≡◌, ℕ, ◌*◌, ◌/◌, ◌%◌, ◌^◌, ◌<◌, ◌≢◌, List, length, replicate, bit_or, slice_index, slice_set}
 use Rattle.std.proofs.Common.{sym, ap, ◌∙◌, ⊎_elim, arith}
 use Rattle.std.specs.Int.{bit_at, w32}
 use Rattle.std.proofs.lemmas.Nat.{mod_below}
-use Rattle.std.proofs.lemmas.Nat.Bits.{bit_at-zero, bit_at_set_same, bit_at_set_other, shr_and_one}
+use Rattle.std.proofs.lemmas.Nat.Bits.{bit_at-zero, bit_at_set_same, bit_at_set_other}
 use Rattle.std.proofs.lemmas.Bool.{cases_eq, cases_lt}
 use Rattle.std.proofs.lemmas.Bool.Decides.{nat_tests}
 use Rattle.std.proofs.lemmas.List.{get_or-set_same, get_or-set_other, get_or-replicate, get_or_past, length-replicate}
 use Rattle.index_sets.specs.Sets.{joined, none, marked}
-
-pub marked_is : (ws : List ℕ) (i : ℕ) → i < 16384 → (bit_and (slice_index ws (i / 32) / 2 ^ (i % 32)) 1 == 1) ≡ marked ws i
-marked_is ws i low = let e = shr_and_one (slice_index ws (i / 32)) (i % 32) in grind (arith, nat_tests)
 
 -- ---- bit i set in a row of words
 module _ (ws : List ℕ) (i : ℕ) (low : i < 16384) (room : i / 32 < length ws) where

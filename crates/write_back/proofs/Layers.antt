@@ -4,14 +4,20 @@ use Rattle.std.proofs.lemmas.Bool.{cases_Bool, false≢true, or_left}
 use Rattle.std.proofs.lemmas.List.{append_assoc, length-append, length_push}
 use Rattle.memory.specs.Lanes.{merged}
 use Rattle.section.specs.declared.Refusal.{Refusal}
-use Rattle.section.specs.View.{View, Facts, held, or_word, seen, Apart}
+use Rattle.section.specs.View.{View, Facts, held, or_word, seen, replaced, Apart}
 use Rattle.section.specs.Calls.{known, Entered, Read, HeldBack, Kept, Write}
-use Rattle.section.specs.Refusals.{Refused}
+use Rattle.section.specs.declared.Refusal.TheVariants.{OutOfRange, Due, Lanes, NoPair}
+use Rattle.section.specs.Refusals.{number, Refused}
 use Rattle.write_back.specs.Own.{Changed}
-use Rattle.section.specs.View.{replaced}
 use Rattle.write_back.specs.Layer.{most_over, room_over, layered, Taken, InOrder}
 use Rattle.section.proofs.Pairs.{Holds, some_none, none_append, append_none, apart_cross, apart_right, apart_join, holds_other, holds_append, push_holds, push_apart, replaced_append, replaced_holds, replaced_apart, replaced_length}
 use Rattle.section.proofs.Laws.{section_laws}
+
+due : (x : Refusal) → number x ≡ 21 → x ≡ Due
+due OutOfRange e = absurd (omega arith)
+due Due e = refl
+due Lanes e = absurd (omega arith)
+due NoPair e = absurd (omega arith)
 
 no_lanes : (lanes : ℕ) → 0 < lanes → lanes ≤ 15 → (lanes ≡ 0) ⊎ (15 < lanes) → ⊥
 no_lanes lanes a b (inl e) = omega arith
@@ -175,19 +181,25 @@ module _ (h : ℕ) (ws : List ℕ) (v : View) (ps : List (ℕ × ℕ)) (i w lane
         }
 
     -- a write that is accepted below
-    pub accepted_below : (ws' : List ℕ) (v' : View) (ps' : List (ℕ × ℕ)) → ps' ≡ ps → Write h ws v i w lanes (Ok tt) ws' v' →
+    accepted_below : (ws' : List ℕ) (v' : View) (ps' : List (ℕ × ℕ)) → ps' ≡ ps → Write h ws v i w lanes (Ok tt) ws' v' →
         LayerWrite h ws v ps i w lanes (Ok tt) ws' v' ps'
     accepted_below ws' v' ps' e st =
         subst (LayerWrite h ws v ps i w lanes (Ok tt) ws' v') (sym e)
         (promised (Ok tt) ws' v' ps (write_above ws' v' st) room (inl refl) (λ f. absurd f))
 
-    -- a write that is refused below: i is in R and not held, and nothing has changed
+    -- a write that is refused below is refused 21: i is in R and not held, and nothing has changed
     refusal_below : (x : Refusal) (ws' : List ℕ) (v' : View) → Write h ws v i w lanes (Err x) ws' v' →
-        (v.reads i ≡ true) × (held v.pairs i ≡ None) × (ws' ≡ ws) × (v' ≡ v)
+        (v.reads i ≡ true) × (held v.pairs i ≡ None) × (ws' ≡ ws) × (v' ≡ v) × (x ≡ Due)
     refusal_below x ws' v' st =
-        ⊎_elim (λ t. let e = st.inside low pos named t in (t, e.0, e.1.1, e.1.2))
+        ⊎_elim (λ t. let e = st.inside low pos named t in (t, e.0, e.1.1, e.1.2, due x e.1.0))
         (λ f. let e = (st.outside low pos named f).accepted in let z : ◌≡◌ {A = ℕ} 0 1 = cc in absurd (omega arith))
         (cases_Bool (v.reads i))
+
+    -- a write that is not refused 21 below
+    pub answered_below : (r : Result (Unit {0}) Refusal) (ws' : List ℕ) (v' : View) (ps' : List (ℕ × ℕ)) →
+        (r ≡ Err Due → ⊥) → ps' ≡ ps → Write h ws v i w lanes r ws' v' → LayerWrite h ws v ps i w lanes r ws' v' ps'
+    answered_below (Ok _) ws' v' ps' other e st = accepted_below ws' v' ps' e st
+    answered_below (Err x) ws' v' ps' other e st = absurd (other (ap Err (refusal_below x ws' v' st).4))
 
     -- it becomes a pair of the layer's own, or is refused here too
     module _ (t : v.reads i ≡ true) (none : held v.pairs i ≡ None) where

@@ -1,12 +1,9 @@
 -- The write-back layer over a section memory that holds at most h pairs.
 use Rattle.std.specs.Prelude.{◌≡◌, ℕ, ◌+◌, ◌-◌, ◌<◌, ◌≤◌, min, ◌⊎◌, List, [], ◌∷◌, ◌++◌, length, Ok, Err, Result}
 use Rattle.section.specs.declared.Refusal.{Refusal}
-use Rattle.write_back.specs.declared.own_pairs.OwnPairs.{OwnPairs}
 use Rattle.write_back.specs.declared.layer.WriteBack.{WriteBack}
 use Rattle.section.specs.Refusals.{number}
-use Rattle.section.specs.View.{View, Meant}
-use Rattle.write_back.specs.Own.{in_use}
-use Rattle.section.specs.View.{replaced}
+use Rattle.section.specs.View.{View, Meant, replaced}
 
 -- the most pairs of the layer and of what is below it
 abbrev pub most_over : ℕ → ℕ
@@ -16,20 +13,17 @@ most_over h = min 64 (h + 8)
 abbrev pub room_over : ℕ → ℕ
 room_over h = most_over h - h
 
-abbrev pub own : OwnPairs → List (ℕ × ℕ)
-own o = in_use o.len o.row
-
 -- the lower view, with own pairs after the lower ones
 abbrev pub layered : View → List (ℕ × ℕ) → View
 layered v ps = record { reads = v.reads; writes = v.writes; pairs = v.pairs ++ ps }
 
 -- the layer's view, by that of the lower section memory
 abbrev pub over : {S : Type 0} → (S → View) → WriteBack S → View
-over view s = layered (view s.lower) (own s.own)
+over view s = layered (view s.lower) s.own
 
 -- what the layer adds to the facts: those of the lower section memory, and that the own pairs fit the own room
 abbrev pub Added : {S : Type 0} → ℕ → (S → View) → (S → Type 0) → WriteBack S → Type 0
-Added h view facts s = Meant h (view s.lower) (facts s.lower) × (length (own s.own) ≤ room_over h)
+Added h view facts s = Meant h (view s.lower) (facts s.lower) × (length s.own ≤ room_over h)
 
 -- where the layer's calls have a meaning
 abbrev pub AllFacts : {S : Type 0} → ℕ → (S → View) → (S → Type 0) → WriteBack S → Type 0

@@ -3,7 +3,7 @@ ghost use Rattle.std.specs.Prelude.{◌≡◌, ◌<◌, ◌≤◌, [], length, s
 ghost use Rattle.memory.specs.Lanes.{merged};
 ghost use Rattle.memory.specs.Words.{Put};
 ghost use Rattle.section.specs.Calls.{Write};
-ghost use Rattle.write_back.specs.Layer.{most_over, room_over, own as own_list, over, Added, AllFacts, Taken, InOrder, Dropped};
+ghost use Rattle.write_back.specs.Layer.{most_over, room_over, over, Added, AllFacts, Taken, InOrder, Dropped};
 ghost use Rattle.section.specs.Refusals.{Refused};
 
 use crate::own_pairs::{MOST_OWN, OwnPairs};
@@ -24,7 +24,7 @@ impl<S: Section> WriteBack<S> {
     /// A layer with no pairs of its own; it forgets nothing below.
     pub fn new(lower: S) -> WriteBack<S>
         ensures lower { result.lower ≡ lower }
-        ensures own { own_list result.own ≡ [] }
+        ensures own { result.own ≡ [] }
     {
         WriteBack {
             lower,
@@ -53,7 +53,7 @@ impl<S: Section> WriteBack<S> {
     fn keep(&mut self, index: usize, word: u32, lanes: u32) -> Result<(), Refusal>
         requires { index < 16384 }
         ensures lower { self.new.lower ≡ self.old.lower }
-        ensures taken { index < length (S.Memory.words self.old.lower) → Taken (room_over S.Section.most) (own_list self.old.own) (index, merged (slice_index (S.Memory.words self.old.lower) index) word lanes) result (own_list self.new.own) }
+        ensures taken { index < length (S.Memory.words self.old.lower) → Taken (room_over S.Section.most) self.old.own (index, merged (slice_index (S.Memory.words self.old.lower) index) word lanes) result self.new.own }
     {
         if self.own.len() >= Self::room() {
             return Err(Refusal::Due);
@@ -72,11 +72,7 @@ fn most_over(lower: usize) -> usize
     requires { lower ≤ 64 }
     ensures { result ≡ most_over lower }
 {
-    if lower + MOST_OWN < MOST_PAIRS {
-        lower + MOST_OWN
-    } else {
-        MOST_PAIRS
-    }
+    (lower + MOST_OWN).min(MOST_PAIRS)
 }
 
 impl<S: Section> Memory for WriteBack<S> {
@@ -97,7 +93,7 @@ impl<S: Section> Memory for WriteBack<S> {
         ensures put { Put (S.Memory.words self.old.lower) index word (S.Memory.words self.new.lower) result }
         ensures same { length (S.Memory.words self.old.lower) ≤ index → self.new ≡ self.old }
         ensures home { S.Memory.fixed self.new.lower ≡ S.Memory.fixed self.old.lower }
-        ensures own { Dropped result (own_list self.old.own) (own_list self.new.own) }
+        ensures own { Dropped result self.old.own self.new.own }
     {
         self.lower.put(index, word)?;
         self.own.clear();
@@ -106,10 +102,14 @@ impl<S: Section> Memory for WriteBack<S> {
 }
 
 impl<S: Section> Section for WriteBack<S> {
-    const H: usize = if S::H.wrapping_add(MOST_OWN) < MOST_PAIRS {
-        S::H.wrapping_add(MOST_OWN)
-    } else {
-        MOST_PAIRS
+    // `limit` answers the same; a constant's value can call neither it nor `min`.
+    const H: usize = {
+        let lower = S::H;
+        if lower < MOST_PAIRS - MOST_OWN {
+            lower + MOST_OWN
+        } else {
+            MOST_PAIRS
+        }
     };
 
     ghost most = { most_over S.Section.most };
@@ -136,24 +136,21 @@ impl<S: Section> Section for WriteBack<S> {
         ensures write { AllFacts S.Section.most S.Section.view S.Section.facts self.old → Write (most_over S.Section.most) (S.Memory.words self.old.lower) (over S.Section.view self.old) index word lanes result (S.Memory.words self.new.lower) (over S.Section.view self.new) }
         ensures facts { AllFacts S.Section.most S.Section.view S.Section.facts self.old → AllFacts S.Section.most S.Section.view S.Section.facts self.new }
         ensures home { S.Memory.fixed self.new.lower ≡ S.Memory.fixed self.old.lower }
-        ensures order { AllFacts S.Section.most S.Section.view S.Section.facts self.old → InOrder (own_list self.old.own) index (own_list self.new.own) }
-        ensures full { AllFacts S.Section.most S.Section.view S.Section.facts self.old → Refused 21 result → room_over S.Section.most ≤ length (own_list self.old.own) }
+        ensures order { AllFacts S.Section.most S.Section.view S.Section.facts self.old → InOrder self.old.own index self.new.own }
+        ensures full { AllFacts S.Section.most S.Section.view S.Section.facts self.old → Refused 21 result → room_over S.Section.most ≤ length self.old.own }
     {
         if index >= self.lower.size() {
             return Err(Refusal::OutOfRange);
         }
-        if lanes == 0 || lanes > 15 {
+        if !(1..=15).contains(&lanes) {
             return Err(Refusal::Lanes);
         }
         if self.own.change(index, word, lanes) {
             return Ok(());
         }
         match self.lower.write(index, word, lanes) {
-            Ok(()) => Ok(()),
-            Err(refusal) => match refusal {
-                Refusal::Due => self.keep(index, word, lanes),
-                other => Err(other),
-            },
+            Err(Refusal::Due) => self.keep(index, word, lanes),
+            answer => answer,
         }
     }
 
@@ -162,10 +159,10 @@ impl<S: Section> Section for WriteBack<S> {
         if k < lower {
             return self.lower.held(k);
         }
-        match self.own.pair(k - lower) {
-            Some(pair) => Ok((pair.index, pair.word)),
-            None => Err(Refusal::NoPair),
-        }
+        self.own
+            .pair(k - lower)
+            .map(|pair| (pair.index, pair.word))
+            .ok_or(Refusal::NoPair)
     }
 
     fn pair_count(&self) -> usize {

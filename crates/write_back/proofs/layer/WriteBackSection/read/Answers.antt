@@ -1,6 +1,6 @@
 use Rattle.std.proofs.Common.{◌<◌, length, sym, refl, arith}
 use Rattle.section.specs.Calls.{Read}
-use Rattle.write_back.specs.Layer.{layered, most_over, own, AllFacts}
+use Rattle.write_back.specs.Layer.{layered, most_over, AllFacts}
 use Rattle.section.proofs.Pairs.{apart_right}
 use Rattle.section.proofs.Laws.{section_laws}
 use Rattle.write_back.proofs.Layers.{read_own, read_below}
@@ -14,8 +14,8 @@ returns-in-Some g c =
     let low : c.args.index < length ws = omega (arith, c.size.ensures.size) in
     record {
       read = λ m.
-          read_own (most_over g.S.Section.most) ws v (own s.own) c.args.index c.in-Some.word m.facts
-          (sym (c.in-Some.ensures (apart_right v.pairs (own s.own) m.facts.apart))) low;
+          read_own (most_over g.S.Section.most) ws v s.own c.args.index c.in-Some.word m.facts
+          (sym (c.in-Some.ensures (apart_right v.pairs s.own m.facts.apart))) low;
       facts = λ m. m;
       home = refl;
     }
@@ -27,7 +27,7 @@ returns-in-None g c =
     let v' = g.S.Section.view c.read.new.self in
     let ws = g.S.Memory.words s.lower in
     let ws' = g.S.Memory.words c.read.new.self in
-    let ps = own s.own in
+    let ps = s.own in
     let i = c.args.index in
     let below : AllFacts g.S.Section.most g.S.Section.view g.S.Section.facts s → Read ws (layered v ps) i c.read.result ws' (layered v' ps) =
     λ m.

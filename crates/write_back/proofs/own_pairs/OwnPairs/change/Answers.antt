@@ -1,21 +1,17 @@
-use Rattle.std.proofs.Common.{refl, ap, ◌∙◌, arith}
-use Rattle.write_back.specs.Own.{in_use}
+use Rattle.std.proofs.Common.{refl, ap, ◌∙◌}
 use Rattle.section.specs.View.{replaced}
 use Rattle.write_back.proofs.Rows.{not_found, found_word, found_change}
 use Rattle.write_back.proofs.own_pairs.OwnPairs.change.Goals as goal
 
-pub returns-in-Some : goal.returns-in-Some
-returns-in-Some c a =
-    let o = c.args.self.now in
-    let k = c.in-Some.k in
-    let f = c.in-Some.ensures.found in (
-      _,
-      found_word o.row o.len c.args.index (omega arith) k (record { index = 0; word = 0 }) f a,
-      found_change o.row o.len c.args.index (omega arith) k (record { index = 0; word = 0 }) f c.merge.result a
-          ∙ ap (replaced (in_use o.len o.row) c.args.index) c.merge.ensures,
-    )
+pub returns-in_default : goal.returns-in_default
+returns-in_default c a = (not_found c.args.self.now c.args.index c.in_default.ensures, refl)
 
-pub returns-in-None : goal.returns-in-None
-returns-in-None c a =
-    let o = c.args.self.now in
-    (not_found o.row o.len c.args.index (omega arith) c.in-None.ensures.found, refl)
+pub returns : goal.returns
+returns c a =
+    let lent = c.deref_mut.ensures.value in
+    let f = c.in-Some.ensures in (
+      c.pair.inside.word,
+      found_word _ _ (lent ∙ c.self.view_is) _ _ _ _ f c.pair.view_is a,
+      found_change _ _ (lent ∙ c.self.view_is) _ _ _ _ f c.pair.view_is a _ _ lent
+          ∙ ap (replaced c.args.self.now c.args.index) c.merge-pair-inside.ensures,
+    )
