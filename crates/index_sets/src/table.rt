@@ -13,7 +13,8 @@ pub const ROOM: usize = 16;
 
 /// At most sixteen indexes below 16,384, all different.
 ///
-/// A row with its length, and no vector: a table is a plain value of fixed memory, copied as it stands.
+/// A row with its length, and no vector: a table is a plain value of fixed memory, copied as it stands, and changed by value, so that
+/// its facts hold of every table.
 #[derive(Clone, Copy)]
 pub struct Table {
     len: usize,
@@ -70,8 +71,12 @@ impl IndexSet for Table {
         if self.len >= ROOM {
             return Err(Refusal::Full);
         }
-        self.items[self.len] = index as u32;
-        self.len += 1;
+        let mut items = self.items;
+        items[self.len] = index as u32;
+        *self = Table {
+            len: self.len + 1,
+            items,
+        };
         Ok(())
     }
 

@@ -104,12 +104,8 @@ impl<S: Section> Memory for WriteBack<S> {
 impl<S: Section> Section for WriteBack<S> {
     // `limit` answers the same; a constant's value can call neither it nor `min`.
     const H: usize = {
-        let lower = S::H;
-        if lower < MOST_PAIRS - MOST_OWN {
-            lower + MOST_OWN
-        } else {
-            MOST_PAIRS
-        }
+        let sum = S::H.wrapping_add(MOST_OWN);
+        if sum < MOST_PAIRS { sum } else { MOST_PAIRS }
     };
 
     ghost most = { most_over S.Section.most };
