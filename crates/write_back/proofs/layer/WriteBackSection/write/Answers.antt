@@ -6,9 +6,6 @@ use Rattle.section.proofs.Pairs.{apart_right}
 use Rattle.write_back.proofs.Layers.{LayerWrite, changed, answered_below, refused_below}
 use Rattle.write_back.proofs.layer.WriteBackSection.write.Goals as goal
 
-pub keep-requires : goal.keep-requires
-keep-requires g c = omega (arith, c.size.ensures.few)
-
 pub returns-then-change : goal.returns-then-change
 returns-then-change g c =
     let s = c.args.self.now in
