@@ -6,7 +6,8 @@ use Rattle.memory.specs.Lanes.{merged}
 use Rattle.index_sets.specs.Sets.{joined}
 use Rattle.section.specs.declared.Refusal.{Refusal}
 use Rattle.section.specs.Refusals.{number, Refused}
-use Rattle.section.specs.View.{View, Facts, fresh, held, or_word, seen, Apart}
+use Rattle.std.specs.Option.{unwrap_or}
+use Rattle.section.specs.View.{View, Facts, fresh, held, seen, Apart}
 use Rattle.section.specs.Calls.{known, with_read, Entered, Read, Stored, Kept, Write}
 use Rattle.section.proofs.Laws.{not_held}
 use Rattle.section.proofs.Pairs.{holds_same, Holds}
@@ -175,7 +176,7 @@ module _ (b : Board) (k : Bank) (s : Section) (facts : Facts b.most s.view) wher
   in_words : (i lanes t : ℕ) → v.reads i ≡ false → (ws' : List ℕ) → ws' ≡ set ws i (merged (seen ws v i) t lanes) →
       ws' ≡ set ws i (merged (get_or ws i 0) t lanes)
   in_words i lanes t out ws' e =
-      e ∙ ap (λ (o : Option ℕ). set ws i (merged (or_word o (get_or ws i 0)) t lanes)) (not_held b.most v i facts out)
+      e ∙ ap (λ (o : Option ℕ). set ws i (merged (unwrap_or o (get_or ws i 0)) t lanes)) (not_held b.most v i facts out)
 
   module _ (i lanes w : ℕ) (h : Hart) where
     abbrev Stores : Result (Unit {0}) Refusal → List ℕ → View → Type 0

@@ -4,7 +4,8 @@ use Rattle.std.proofs.lemmas.Bool.{eqb-true, eqb-false, eq-eqb, ne_eqb, cases_eq
 use Rattle.memory.specs.Contents.{Mem, put}
 use Rattle.memory.proofs.Contents.{put_same, put_other}
 use Rattle.index_sets.specs.Sets.{IndexTest}
-use Rattle.section.specs.View.{held, or_word, replaced, Apart}
+use Rattle.std.specs.Option.{unwrap_or}
+use Rattle.section.specs.View.{held, replaced, Apart}
 use Rattle.section.proofs.Pairs.{some_none, cases_option, held_head, held_tail, Holds, push_holds, push_apart, replaced_holds, replaced_apart, replaced_length}
 use Rattle.agreement.specs.Pairs.{Pair, seen_over, is_held, apart, between, hold, is_word, all_held, arranged, some_below, inhabited}
 
@@ -65,29 +66,29 @@ between_test T W (p ∷ ps) h =
 module _ (m : Mem) (i w : ℕ) (ps : List Pair) (j : ℕ) where
   -- what is put under a held index is not seen
   pub seen_put : is_held ps i ≡ true → seen_over (put m i w) ps j ≡ seen_over m ps j
-  seen_put h = ⊎_elim free (λ s. ap (λ (o : Option ℕ). or_word o (put m i w j)) s.1 ∙ sym (ap (λ (o : Option ℕ). or_word o (m j)) s.1)) (cases_option (held ps j))
+  seen_put h = ⊎_elim free (λ s. ap (λ (o : Option ℕ). unwrap_or o (put m i w j)) s.1 ∙ sym (ap (λ (o : Option ℕ). unwrap_or o (m j)) s.1)) (cases_option (held ps j))
     where
       free : held ps j ≡ None → seen_over (put m i w) ps j ≡ seen_over m ps j
       free n =
-          ap (or_word (held ps j))
+          ap (unwrap_or (held ps j))
           (put_other m i w j (λ e. let s = some_held ps i h in some_none (held ps i) s.0 s.1 (ap (held ps) (sym e) ∙ n)))
 
   pub seen_under : held ps i ≡ None → seen_over (put m i w) ps j ≡ put (seen_over m ps) i w j
   seen_under n =
       ⊎_elim
       (λ (e : j ≡ i).
-      ap (λ (o : Option ℕ). or_word o (put m i w j)) (ap (held ps) e ∙ n) ∙ ap (put m i w) e ∙ put_same m i w
+      ap (λ (o : Option ℕ). unwrap_or o (put m i w j)) (ap (held ps) e ∙ n) ∙ ap (put m i w) e ∙ put_same m i w
       ∙ sym (ap (put (seen_over m ps) i w) e ∙ put_same (seen_over m ps) i w))
-      (λ ne. ap (or_word (held ps j)) (put_other m i w j ne) ∙ sym (put_other (seen_over m ps) i w j ne))
+      (λ ne. ap (unwrap_or (held ps j)) (put_other m i w j ne) ∙ sym (put_other (seen_over m ps) i w j ne))
       (cases_eq j i)
 
   pub seen_held : (ps' : List Pair) → Holds ps i w ps' → seen_over m ps' j ≡ put (seen_over m ps) i w j
   seen_held ps' h =
       ⊎_elim
       (λ (e : j ≡ i).
-      ap (λ (o : Option ℕ). or_word o (m j)) (h j ∙ cond-true (eqb j i) _ _ (eq-eqb j i e))
+      ap (λ (o : Option ℕ). unwrap_or o (m j)) (h j ∙ cond-true (eqb j i) _ _ (eq-eqb j i e))
       ∙ sym (ap (put (seen_over m ps) i w) e ∙ put_same (seen_over m ps) i w))
-      (λ ne. ap (λ (o : Option ℕ). or_word o (m j)) (h j ∙ cond-false (eqb j i) _ _ (ne_eqb j i ne)) ∙ sym (put_other (seen_over m ps) i w j ne))
+      (λ ne. ap (λ (o : Option ℕ). unwrap_or o (m j)) (h j ∙ cond-false (eqb j i) _ _ (ne_eqb j i ne)) ∙ sym (put_other (seen_over m ps) i w j ne))
       (cases_eq j i)
 
 -- a pair that is put is seen as it was while it was held
@@ -98,8 +99,8 @@ seen_settled m p ps j n =
     ∙ ⊎_elim
     (λ (e : j ≡ p.0).
     ap (put (seen_over m ps) p.0 p.1) e ∙ put_same (seen_over m ps) p.0 p.1
-    ∙ sym (ap (λ (o : Option ℕ). or_word o (m j)) (held_head p ps j e)))
-    (λ ne. put_other (seen_over m ps) p.0 p.1 j ne ∙ sym (ap (λ (o : Option ℕ). or_word o (m j)) (held_tail p ps j ne)))
+    ∙ sym (ap (λ (o : Option ℕ). unwrap_or o (m j)) (held_head p ps j e)))
+    (λ ne. put_other (seen_over m ps) p.0 p.1 j ne ∙ sym (ap (λ (o : Option ℕ). unwrap_or o (m j)) (held_tail p ps j ne)))
     (cases_eq j p.0)
 
 -- ---- a word newly held

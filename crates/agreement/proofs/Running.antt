@@ -5,7 +5,8 @@ use Rattle.memory.specs.Lanes.{Lane, byte, names, merged}
 use Rattle.memory.specs.Contents.{put}
 use Rattle.memory.proofs.Contents.{put_same, put_other}
 use Rattle.index_sets.specs.Sets.{joined}
-use Rattle.section.specs.View.{held, or_word, Apart}
+use Rattle.std.specs.Option.{unwrap_or}
+use Rattle.section.specs.View.{held, Apart}
 use Rattle.section.specs.Calls.{known, with_read}
 use Rattle.section.proofs.Pairs.{cases_option, Holds}
 use Rattle.hart.specs.State.{next, next_sent}
@@ -41,7 +42,7 @@ module _ (b : Board) (m₀ m : State) (d : Device) (s : Section) (r : Running b 
       (cases_option (held s.view.pairs i))
 
   plain : (i : ℕ) → s.view.reads i ≡ false → seen_over d.words s.view.pairs i ≡ d.words i
-  plain i out = ap (λ (o : Option ℕ). or_word o (d.words i)) (free i out)
+  plain i out = ap (λ (o : Option ℕ). unwrap_or o (d.words i)) (free i out)
 
   text_unread : (i : ℕ) → i < b.text → s.view.reads i ≡ false
   text_unread i l =

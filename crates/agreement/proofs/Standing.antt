@@ -6,7 +6,8 @@ use Rattle.std.proofs.lemmas.List.{get_or-set_same, get_or-set_other}
 use Rattle.memory.specs.Contents.{Mem, put, word}
 use Rattle.memory.specs.Lanes.{merged}
 use Rattle.memory.proofs.Contents.{put_same, put_other, word_set}
-use Rattle.section.specs.View.{held, or_word, Apart}
+use Rattle.std.specs.Option.{unwrap_or}
+use Rattle.section.specs.View.{held, Apart}
 use Rattle.section.specs.Calls.{known}
 use Rattle.section.proofs.Pairs.{some_none, held_at}
 use Rattle.hart.specs.State.{next}
@@ -371,11 +372,11 @@ module _ (b : Board) where
     same_words ch m m' s (stop z) g h = refl
     same_words ch m m' s (quiet x) g h = refl
     same_words ch m m' s (load i f) g h =
-        ap (λ w. loading (known s.view i) (refuses ch.refuse s.view.reads) s i (next s.core (f (or_word (held s.view.pairs i) w))))
+        ap (λ w. loading (known s.view i) (refuses ch.refuse s.view.reads) s i (next s.core (f (unwrap_or (held s.view.pairs i) w))))
         (h i g.1)
     same_words ch m m' s (store i lanes w x) g h =
         ap (λ u.
-        let ps = holding_on b ch s i (merged (or_word (held s.view.pairs i) u) w lanes) in
+        let ps = holding_on b ch s i (merged (unwrap_or (held s.view.pairs i) u) w lanes) in
         storing (s.view.reads i) (is_held s.view.pairs i) (ch.refuse || not (leb (length ps) b.most)) (ch.gain && eqb lanes 15) ps
         s i lanes w (next s.core x))
         (h i g.1)

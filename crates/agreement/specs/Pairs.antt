@@ -2,7 +2,8 @@
 use Rattle.std.specs.Prelude.{ℕ, zero, suc, Bool, true, false, cond, not, ◌&&◌, ◌||◌, List, [], ◌∷◌, ◌++◌, length, is_some, Some, None, Option, ◌==◌, nat_le, nat_lt}
 use Rattle.memory.specs.Contents.{Mem}
 use Rattle.index_sets.specs.Sets.{IndexTest}
-use Rattle.section.specs.View.{held, or_word, replaced}
+use Rattle.std.specs.Option.{unwrap_or}
+use Rattle.section.specs.View.{held, replaced}
 
 -- an index and the word held for it
 abbrev pub Pair : Type 0
@@ -10,7 +11,7 @@ Pair = ℕ × ℕ
 
 -- the words m as they are seen while the pairs are held back
 abbrev pub seen_over : Mem → List Pair → Mem
-seen_over m ps i = or_word (held ps i) (m i)
+seen_over m ps i = unwrap_or (held ps i) (m i)
 
 abbrev pub is_held : List Pair → ℕ → Bool
 is_held ps i = is_some (held ps i)

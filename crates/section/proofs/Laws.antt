@@ -6,7 +6,8 @@ use Rattle.memory.specs.Lanes.{merged}
 use Rattle.index_sets.specs.Sets.{joined}
 use Rattle.section.specs.declared.Refusal.{Refusal}
 use Rattle.section.specs.Refusals.{Refused}
-use Rattle.section.specs.View.{View, Facts, fresh, held, or_word, seen}
+use Rattle.std.specs.Option.{unwrap_or}
+use Rattle.section.specs.View.{View, Facts, fresh, held, seen}
 use Rattle.section.specs.Calls.{known, with_read, Entered, Read, Declined, Stored, HeldBack, Kept, Write}
 use Rattle.section.specs.Laws.{SectionLaws}
 use Rattle.section.proofs.Pairs.{some_none, cases_option, holds_other}
@@ -107,17 +108,17 @@ seen_written h ws v i new lanes ws' v' s (in_place low f st) =
     let words : (k : ℕ) → get_or ws' k 0 ≡ get_or (set ws i new) k 0 = λ k. ap (λ (z : List ℕ). get_or z k 0) st.words in
     let pairs : (k : ℕ) → held v'.pairs k ≡ held v.pairs k = λ k. ap (λ (z : List (ℕ × ℕ)). held z k) st.pairs in
     seen_by ws ws' v v' i new
-    (ap (λ (o : Option ℕ). or_word o (get_or ws' i 0)) (pairs i ∙ not_held h v i s f) ∙ words i ∙ get_or-set_same ws i new 0 low)
+    (ap (λ (o : Option ℕ). unwrap_or o (get_or ws' i 0)) (pairs i ∙ not_held h v i s f) ∙ words i ∙ get_or-set_same ws i new 0 low)
     (λ k ne.
-    ap (λ (o : Option ℕ). or_word o (get_or ws' k 0)) (pairs k)
-    ∙ ap (or_word (held v.pairs k)) (words k ∙ get_or-set_other ws i k new 0 ne))
+    ap (λ (o : Option ℕ). unwrap_or o (get_or ws' k 0)) (pairs k)
+    ∙ ap (unwrap_or (held v.pairs k)) (words k ∙ get_or-set_other ws i k new 0 ne))
 seen_written h ws v i new lanes ws' v' s (held_back t st) =
     let words : (k : ℕ) → get_or ws' k 0 ≡ get_or ws k 0 = λ k. ap (λ (z : List ℕ). get_or z k 0) st.words in
     seen_by ws ws' v v' i new
-    (ap (λ (o : Option ℕ). or_word o (get_or ws' i 0)) (st.holds i ∙ cond-true (eqb i i) (Some new) (held v.pairs i) (eq-eqb i i refl)))
+    (ap (λ (o : Option ℕ). unwrap_or o (get_or ws' i 0)) (st.holds i ∙ cond-true (eqb i i) (Some new) (held v.pairs i) (eq-eqb i i refl)))
     (λ k ne.
-    ap (λ (o : Option ℕ). or_word o (get_or ws' k 0)) (holds_other v.pairs i new v'.pairs st.holds k ne)
-    ∙ ap (or_word (held v.pairs k)) (words k))
+    ap (λ (o : Option ℕ). unwrap_or o (get_or ws' k 0)) (holds_other v.pairs i new v'.pairs st.holds k ne)
+    ∙ ap (unwrap_or (held v.pairs k)) (words k))
 
 -- ---- the facts
 pub fresh_facts : (h : ℕ) → h ≤ 64 → Facts h fresh

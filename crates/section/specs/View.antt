@@ -1,6 +1,7 @@
 -- What a section memory means beside its words, and the facts where its calls have a meaning.
 use Rattle.std.specs.Prelude.{◌≡◌, ℕ, ◌<◌, ◌≤◌, true, cond, List, [], ◌∷◌, length, Some, None, Option, ◌==◌, ◌≢◌, slice_index}
 use Rattle.std.specs.Map.{lookup}
+use Rattle.std.specs.Option.{unwrap_or}
 use Rattle.index_sets.specs.Sets.{IndexTest, none}
 
 -- the read-first set R, the write-first set F, and the held pairs, each an index and a word
@@ -17,13 +18,9 @@ fresh = record { reads = none; writes = none; pairs = [] }
 abbrev pub held : List (ℕ × ℕ) → ℕ → Option ℕ
 held ps i = lookup (λ k. i == k) ps
 
-abbrev pub or_word : Option ℕ → ℕ → ℕ
-or_word (Some w) d = w
-or_word None d = d
-
 -- the seen word i: the word held for i if there is one, otherwise word i
 abbrev pub seen : List ℕ → View → ℕ → ℕ
-seen ws v i = or_word (held v.pairs i) (slice_index ws i)
+seen ws v i = unwrap_or (held v.pairs i) (slice_index ws i)
 
 -- the pairs with another word in the one for i, which stays in its place
 abbrev pub replaced : List (ℕ × ℕ) → ℕ → ℕ → List (ℕ × ℕ)

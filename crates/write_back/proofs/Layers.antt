@@ -4,7 +4,8 @@ use Rattle.std.proofs.lemmas.Bool.{cases_Bool, false≢true, or_left}
 use Rattle.std.proofs.lemmas.List.{append_assoc, length-append, length_push}
 use Rattle.memory.specs.Lanes.{merged}
 use Rattle.section.specs.declared.Refusal.{Refusal}
-use Rattle.section.specs.View.{View, Facts, held, or_word, seen, replaced, Apart}
+use Rattle.std.specs.Option.{unwrap_or}
+use Rattle.section.specs.View.{View, Facts, held, seen, replaced, Apart}
 use Rattle.section.specs.Calls.{known, Entered, Read, HeldBack, Kept, Write}
 use Rattle.section.specs.declared.Refusal.TheVariants.{OutOfRange, Due, Lanes, NoPair}
 use Rattle.section.specs.Refusals.{number, Refused}
@@ -36,7 +37,7 @@ fits_room h ps qs cap a b = omega (arith, length-append ps qs)
 -- ---- an index without an own pair
 module _ (ws : List ℕ) (v : View) (ps : List (ℕ × ℕ)) (i : ℕ) (out : held ps i ≡ None) where
   pub seen_below : seen ws v i ≡ seen ws (layered v ps) i
-  seen_below = ap (λ (o : Option ℕ). or_word o (get_or ws i 0)) (sym (append_none v.pairs ps i out))
+  seen_below = ap (λ (o : Option ℕ). unwrap_or o (get_or ws i 0)) (sym (append_none v.pairs ps i out))
 
   entered_above : (r : Result ℕ Refusal) (v' : View) → Entered ws v i r v' → Entered ws (layered v ps) i r (layered v' ps)
   entered_above (Ok w) v' e = (e.0 ∙ seen_below, ap (λ (u : View). layered u ps) e.1)
@@ -64,7 +65,7 @@ module _ (h : ℕ) (ws : List ℕ) (v : View) (ps : List (ℕ × ℕ)) (i old : 
   read_in = s.inside i old above_some
 
   seen_own : old ≡ seen ws (layered v ps) i
-  seen_own = sym (ap (λ (o : Option ℕ). or_word o (get_or ws i 0)) above_some)
+  seen_own = sym (ap (λ (o : Option ℕ). unwrap_or o (get_or ws i 0)) above_some)
 
   pub read_own : i < length ws → Read ws (layered v ps) i (Ok old) ws (layered v ps)
   read_own low =
@@ -207,7 +208,7 @@ module _ (h : ℕ) (ws : List ℕ) (v : View) (ps : List (ℕ × ℕ)) (i w lane
       above_none = none_append v.pairs ps i none ∙ out
 
       seen_word : get_or ws i 0 ≡ seen ws (layered v ps) i
-      seen_word = sym (ap (λ (o : Option ℕ). or_word o (get_or ws i 0)) above_none)
+      seen_word = sym (ap (λ (o : Option ℕ). unwrap_or o (get_or ws i 0)) above_none)
 
       pushed : (new : ℕ) → length ps < room_over h →
           HeldBack (most_over h) ws (layered v ps) i new ws (layered v (ps ++ (i, new) ∷ []))

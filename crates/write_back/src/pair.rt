@@ -11,7 +11,7 @@ pub struct Pair {
     pub word: u32,
 }
 
-/// Contracts see the two numbers.
+/// Contracts see the two numbers, as they see the pairs of any section memory.
 impl Model for Pair {
     ghost Value = { ℕ × ℕ };
 
