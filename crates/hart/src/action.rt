@@ -42,6 +42,7 @@ impl Stop {
     pub fn number(self) -> u32
         ensures { result ≡ stop_number self }
     {
+        // each enum casts itself: a type parameter cannot be cast
         self as u32
     }
 }

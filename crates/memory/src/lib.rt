@@ -27,6 +27,7 @@ impl Refusal {
     pub fn number(self) -> u32
         ensures { result ≡ refusal_number self }
     {
+        // each enum casts itself: a type parameter cannot be cast
         self as u32
     }
 }
