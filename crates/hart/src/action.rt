@@ -68,6 +68,8 @@ impl fmt::Display for Stop {
 }
 
 /// What the next instruction does.
+///
+/// An enum, and no closure: every machine that carries it out does so over memories of its own kind.
 #[derive(Clone, Copy, PartialEq, Eq, Debug)]
 pub enum Action {
     /// nothing: the machine stops

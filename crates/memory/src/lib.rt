@@ -38,6 +38,7 @@ pub trait Memory {
     ghost words: { Self → List ℕ };
 
     /// what no call changes: which buffers the memory borrows, and what stands in them beside its words
+    // A clause of each call says so, since an invariant speaks of one state.
     ghost fixed: { Self → List ℕ };
 
     /// The number of words.

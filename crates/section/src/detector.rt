@@ -55,6 +55,7 @@ impl<M: Memory, R: IndexSet, F: IndexSet> Detector<M, R, F> {
     }
 }
 
+// Calls are handed on one by one, here and in other layers: Rust delegates none, and a macro may write no impl.
 impl<M: Memory, R: IndexSet, F: IndexSet> Memory for Detector<M, R, F> {
     ghost words = { λ s. M.Memory.words s.memory };
 

@@ -25,6 +25,7 @@ pub trait Section: Memory {
     ghost view: { Self → View };
 
     /// what a layer adds to the facts
+    // The facts are a premise of clauses, and no invariant: a put breaks them until the next `forget`.
     ghost facts: { Self → Type 0 };
 
     /// The most pairs that it holds, for code that does not know the type.
@@ -39,6 +40,7 @@ pub trait Section: Memory {
         ensures home { Self.Memory.fixed self.new ≡ Self.Memory.fixed self.old };
 
     /// Replaces the bytes of the seen word that `lanes` names by those of `word`: in place outside R, held back inside.
+    // Three arguments, and no struct of them: callers have them apart, and lanes that name nothing are this call's to refuse.
     fn write(&mut self, index: usize, word: u32, lanes: u32) -> Result<(), Refusal>
         ensures write { Meant most (view self.old) (facts self.old) → Write most (Self.Memory.words self.old) (view self.old) index word lanes result (Self.Memory.words self.new) (view self.new) }
         ensures facts { Meant most (view self.old) (facts self.old) → Meant most (view self.new) (facts self.new) }
