@@ -1,3 +1,2 @@
-pub mod Arguments
-pub mod Digits
 pub mod Executions
+pub mod Digits

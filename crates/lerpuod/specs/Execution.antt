@@ -1,12 +1,12 @@
 -- What became of an image.
-use Rattle.std.specs.Prelude.{◌≡◌, ℕ, List, Some, None, vec_items}
+use Rattle.std.specs.Prelude.{◌≡◌, ℕ, List, Some, None, Ok, Err, Result, vec_items}
 use Rattle.image.specs.Image.{header}
 use Rattle.hart.specs.Stops.{number}
 use Rattle.machine.specs.Run.{run_end, run_stop, run_outputs}
 use Rattle.machine.specs.Refusals.{as_no, load_refusal}
 use Rattle.lerpuod.specs.declared.execution.Run.{Run}
-use Rattle.lerpuod.specs.declared.execution.Outcome.{Outcome}
-use Rattle.lerpuod.specs.declared.execution.Outcome.TheVariants.{Ended, Refused}
+use Rattle.lerpuod.specs.declared.execution.NoRun.{NoRun}
+use Rattle.lerpuod.specs.declared.execution.NoRun.TheVariants.{Refused, Memory}
 
 -- the end of the image's uninterrupted run
 pub record Ran (bs : List ℕ) (r : Run) : Type 0 where
@@ -15,6 +15,8 @@ pub record Ran (bs : List ℕ) (r : Run) : Type 0 where
   pub stop_is : number r.end.stop ≡ run_stop bs
   pub outputs_are : vec_items r.outputs ≡ run_outputs bs
 
-abbrev pub OutcomeOf : List ℕ → Outcome → Type 0
-OutcomeOf bs (Ended r) = (load_refusal bs 16384 16384 ≡ None) × Ran bs r
-OutcomeOf bs (Refused e) = load_refusal bs 16384 16384 ≡ Some (as_no e)
+-- what an image comes to; nothing is said of one that finds no memory
+abbrev pub OutcomeOf : List ℕ → Result Run NoRun → Type 0
+OutcomeOf bs (Ok r) = (load_refusal bs 16384 16384 ≡ None) × Ran bs r
+OutcomeOf bs (Err (Refused e)) = load_refusal bs 16384 16384 ≡ Some (as_no e)
+OutcomeOf bs (Err Memory) = Unit {0}

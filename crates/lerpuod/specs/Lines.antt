@@ -10,4 +10,4 @@ line (Output n w) = codes "output " ++ (decimal n ++ (codes ": " ++ hex w))
 line (Register n w) = codes "register " ++ (decimal n ++ (codes ": " ++ hex w))
 line (End stop ran sent) =
     codes "end: stop " ++ (decimal stop ++ (codes ", " ++ (decimal ran ++ (codes " instructions, " ++ (decimal sent ++ codes " outputs")))))
-line (LoadRefused r) = codes "load: " ++ refused r
+line (LoadRefused e) = codes "load: " ++ refused e

@@ -1,20 +1,13 @@
 -- Refusals as they are printed.
-use Rattle.std.specs.Prelude.{ℕ, List, [], ◌∷◌, ◌++◌, Some, None, codes, decimal, Option}
-use Rattle.image.specs.Questions.{No}
-use Rattle.lerpuod.specs.declared.refused.Refused.{Refused}
+use Rattle.std.specs.Prelude.{ℕ, List, [], ◌∷◌, ◌++◌, codes, decimal}
+use Rattle.machine.specs.declared.Refusal.{Refusal}
+use Rattle.machine.specs.Refusals.{number, values, reason}
 
-abbrev pub values : Option ℕ → List ℕ
-values None = []
-values (Some v) = v ∷ []
+-- each after a blank
+abbrev pub spaced : List ℕ → List ℕ
+spaced [] = []
+spaced (v ∷ vs) = codes " " ++ (decimal v ++ spaced vs)
 
--- the refusal that is printed
-abbrev pub no : Refused → No
-no r = (r.number, values r.value)
-
--- its number, its value if it has one, and its reason
-abbrev pub told : ℕ → Option ℕ → List ℕ → List ℕ
-told n None reason = codes "refused " ++ (decimal n ++ (codes ": " ++ reason))
-told n (Some v) reason = codes "refused " ++ (decimal n ++ (codes " " ++ (decimal v ++ (codes ": " ++ reason))))
-
-abbrev pub refused : Refused → List ℕ
-refused r = told r.number r.value r.reason.now
+-- the refusal's number, its values, and its reason in plain words
+abbrev pub refused : Refusal → List ℕ
+refused e = codes "refused " ++ (decimal (number e) ++ (spaced (values e) ++ (codes ": " ++ reason e)))

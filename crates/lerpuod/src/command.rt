@@ -3,7 +3,7 @@ ghost use Rattle.std.specs.Prelude.{◌≡◌, [], ◌∷◌, codes, MatchResult
 ghost use Rattle.lerpuod.specs.Commands.{texts, Asks, Misuses, ExtraFirst};
 
 use std::env::Args;
-use std::fmt;
+use thiserror::Error;
 
 /// What the program is asked to do.
 #[derive(Drop)]
@@ -17,13 +17,15 @@ pub enum Command {
 }
 
 /// Why the arguments are no command.
-#[derive(Drop)]
+#[derive(Debug, Drop, Error)]
 pub enum Misuse {
     /// no command has this name
+    #[error("{0:?} is no command")]
     Unknown(String),
-    /// `uninterrupted` without a file
+    #[error("\"uninterrupted\" lacks its image file")]
     NoImage,
     /// an argument after the last that the command takes
+    #[error("{0:?} is one argument too many")]
     Extra(String),
 }
 
@@ -47,10 +49,8 @@ impl Command {
 fn uninterrupted(mut args: Args) -> Result<Command, Misuse>
     ensures { MatchResult result (Asks (codes "uninterrupted" ∷ texts args)) (Misuses (codes "uninterrupted" ∷ texts args)) }
 {
-    match args.next() {
-        Some(image) => alone(Command::Uninterrupted(image), args),
-        None => Err(Misuse::NoImage),
-    }
+    let image = args.next().ok_or(Misuse::NoImage)?;
+    alone(Command::Uninterrupted(image), args)
 }
 
 // The command, unless a further argument comes.
@@ -60,16 +60,6 @@ fn alone(command: Command, mut args: Args) -> Result<Command, Misuse>
     match args.next() {
         Some(extra) => Err(Misuse::Extra(extra)),
         None => Ok(command),
-    }
-}
-
-impl fmt::Display for Misuse {
-    fn fmt<W: fmt::Write>(&self, f: &mut fmt::Formatter<W>) -> fmt::Result {
-        match self {
-            Misuse::Unknown(name) => write!(f, "{name:?} is no command"),
-            Misuse::NoImage => f.write_str("\"uninterrupted\" lacks its image file"),
-            Misuse::Extra(argument) => write!(f, "{argument:?} is one argument too many"),
-        }
     }
 }
 

@@ -1,6 +1,8 @@
 // An image executed over memories of the program's own.
-ghost use Rattle.std.specs.Prelude.{IfOk};
+ghost use Rattle.std.specs.Prelude.{◌≡◌};
 ghost use Rattle.lerpuod.specs.Execution.{OutcomeOf};
+ghost use Rattle.machine.specs.declared.Refusal.TheVariants.{Image as ImageRefused};
+ghost use Rattle.lerpuod.specs.declared.execution.NoRun.TheVariants.{Refused, Memory};
 
 use image::Image;
 use image::header::Header;
@@ -17,39 +19,59 @@ pub struct Run {
     pub outputs: Vec<u32>,
 }
 
-/// What became of an image.
-#[derive(Drop)]
-pub enum Outcome {
-    Ended(Run),
+/// Why an image has no run.
+#[derive(Debug, Drop)]
+pub enum NoRun {
+    /// it is refused
     Refused(Refusal),
+    /// no memory is left
+    Memory,
+}
+
+impl From<image::Refusal> for NoRun {
+    ghost from_gives = { λ e r. r ≡ Refused (ImageRefused e) };
+
+    fn from(refusal: image::Refusal) -> NoRun {
+        NoRun::Refused(Refusal::Image(refusal))
+    }
+}
+
+impl From<Refusal> for NoRun {
+    ghost from_gives = { λ e r. r ≡ Refused e };
+
+    fn from(refusal: Refusal) -> NoRun {
+        NoRun::Refused(refusal)
+    }
+}
+
+impl From<AllocError> for NoRun {
+    ghost from_gives = { λ _ r. r ≡ Memory };
+
+    fn from(_error: AllocError) -> NoRun {
+        NoRun::Memory
+    }
 }
 
 /// Executes an image to its end, without cuts.
-pub fn execute(heap: Global, bytes: &[u8]) -> Result<Outcome, AllocError>
-    ensures { IfOk result (OutcomeOf bytes.now) }
+pub fn execute(heap: Global, bytes: &[u8]) -> Result<Run, NoRun>
+    ensures { OutcomeOf bytes.now result }
 {
-    let header = match Image::read(bytes) {
-        Ok(image) => image.header(),
-        Err(refusal) => return Ok(Outcome::Refused(Refusal::Image(refusal))),
-    };
+    let image = Image::read(bytes)?;
     let mut memory = vec![in heap; 0u32; MOST_WORDS]?;
     let mut outputs = vec![in heap; 0u32; MOST_WORDS]?;
-    match execute_on_words(bytes, memory.as_mut_slice(), outputs.as_mut_slice()) {
-        Ok(end) => {
-            outputs.truncate(end.core.sent as usize);
-            Ok(Outcome::Ended(Run {
-                header,
-                end,
-                outputs,
-            }))
-        }
-        Err(refusal) => Ok(Outcome::Refused(refusal)),
-    }
+    let end = execute_on_words(bytes, memory.as_mut_slice(), outputs.as_mut_slice())?;
+    outputs.truncate(end.core.sent as usize);
+    Ok(Run {
+        header: image.header(),
+        end,
+        outputs,
+    })
 }
 
 #[cfg(test)]
 mod tests {
     use super::*;
+    use image::header::HeaderWord;
     use std::test::Fail;
     use worked_examples::example_image;
 
@@ -58,12 +80,16 @@ mod tests {
         let mut bytes = example_image();
         // the entry's least significant byte
         bytes[12] = 2;
-        match execute(rt.alloc(), &bytes)? {
-            Outcome::Refused(refusal) => {
-                assert_eq!(rt; refusal, Refusal::Image(image::Refusal::Header(3)));
+        match execute(rt.alloc(), &bytes) {
+            Err(NoRun::Refused(refusal)) => {
+                assert_eq!(rt;
+                    refusal,
+                    Refusal::Image(image::Refusal::Header(HeaderWord::Entry))
+                );
                 Ok(())
             },
-            Outcome::Ended(_) => Err(Fail::new("the image was executed")),
+            Err(NoRun::Memory) => Err(Fail::new("there was not enough memory")),
+            Ok(_) => Err(Fail::new("the image was executed")),
         }
     }
 }

@@ -1,49 +1,20 @@
 // What ends the program with status 1.
 use crate::command::Misuse;
 use std::alloc::AllocError;
-use std::{fmt, io};
+use std::io;
+use thiserror::Error;
 
 /// Why the program cannot do what it is asked for.
-#[derive(Drop)]
+#[derive(Debug, Drop, Error)]
 pub enum Fault {
-    /// the arguments cannot be read
+    #[error("the arguments cannot be read: {0}")]
     Arguments(io::Error),
-    /// the arguments are no command
-    Misuse(Misuse),
-    /// a file cannot be read
+    #[error("{0}; `lerpuod help` lists the commands")]
+    Misuse(#[from] Misuse),
+    #[error("the file {name:?} cannot be read: {error}")]
     File { name: String, error: io::Error },
-    /// nothing more can be printed
-    Output(io::Error),
-    /// no memory is left
+    #[error("the output cannot be written: {0}")]
+    Output(#[from] io::Error),
+    #[error("there is not enough memory")]
     Memory,
-}
-
-impl From<Misuse> for Fault {
-    fn from(misuse: Misuse) -> Fault {
-        Fault::Misuse(misuse)
-    }
-}
-
-impl From<io::Error> for Fault {
-    fn from(error: io::Error) -> Fault {
-        Fault::Output(error)
-    }
-}
-
-impl From<AllocError> for Fault {
-    fn from(_error: AllocError) -> Fault {
-        Fault::Memory
-    }
-}
-
-impl fmt::Display for Fault {
-    fn fmt<W: fmt::Write>(&self, f: &mut fmt::Formatter<W>) -> fmt::Result {
-        match self {
-            Fault::Arguments(error) => write!(f, "the arguments cannot be read: {error}"),
-            Fault::Misuse(misuse) => write!(f, "{misuse}; `lerpuod help` lists the commands"),
-            Fault::File { name, error } => write!(f, "the file {name:?} cannot be read: {error}"),
-            Fault::Output(error) => write!(f, "the output cannot be written: {error}"),
-            Fault::Memory => f.write_str("there is not enough memory"),
-        }
-    }
 }

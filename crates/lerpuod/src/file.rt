@@ -10,7 +10,7 @@ pub struct InputFile {
 }
 
 impl InputFile {
-    /// Reads the whole file.
+    /// Reads the whole file. A `match`, since the name goes into either answer, and `map_err` would take it for the error's.
     pub fn read(rt: &HostRuntime, name: String) -> Result<InputFile, Fault> {
         match fs::read(rt, name.as_str()) {
             Ok(bytes) => Ok(InputFile { name, bytes }),

@@ -3,7 +3,7 @@ ghost use Rattle.std.specs.Prelude.{Some};
 ghost use Rattle.lerpuod.specs.Lines.{line};
 
 use crate::hex::Hex;
-use crate::refused::Refused;
+use machine::Refusal;
 use std::fmt;
 
 /// A line of what a run left, or of why there was none.
@@ -26,7 +26,7 @@ pub enum Line {
         outputs: u32,
     },
     /// an image that was not loaded
-    LoadRefused(Refused),
+    LoadRefused(Refusal),
 }
 
 impl fmt::Display for Line {
@@ -52,7 +52,16 @@ impl fmt::Display for Line {
                     "end: stop {stop}, {instructions} instructions, {outputs} outputs"
                 )
             }
-            Line::LoadRefused(refused) => write!(f, "load: {refused}"),
+            Line::LoadRefused(refusal) => {
+                let number = refusal.number();
+                match refusal {
+                    Refusal::Image(image::Refusal::Header(word)) => {
+                        let position = word.position();
+                        write!(f, "load: refused {number} {position}: {refusal}")
+                    }
+                    _ => write!(f, "load: refused {number}: {refusal}"),
+                }
+            }
         }
     }
 }
@@ -61,45 +70,41 @@ impl fmt::Display for Line {
 mod tests {
     use super::*;
     use image::Refusal as ImageRefusal;
-    use machine::Refusal;
+    use image::header::HeaderWord;
     use std::test::Fail;
 
-    const REFUSALS: [(Refusal, &str); 11] = [
+    const REFUSALS: [(Refusal, &str); 10] = [
         (
             Refusal::Image(ImageRefusal::Length),
             "load: refused 2: the length is not a multiple of 4, or less than 28 bytes",
         ),
         (
-            Refusal::Image(ImageRefusal::Header(0)),
+            Refusal::Image(ImageRefusal::Header(HeaderWord::Words)),
             "load: refused 5 0: the memory size is not 1 to 16384 words",
         ),
         (
-            Refusal::Image(ImageRefusal::Header(1)),
+            Refusal::Image(ImageRefusal::Header(HeaderWord::Text)),
             "load: refused 5 1: the text size is 0 or above the memory size",
         ),
         (
-            Refusal::Image(ImageRefusal::Header(2)),
+            Refusal::Image(ImageRefusal::Header(HeaderWord::Given)),
             "load: refused 5 2: the memory words given are fewer than the text or more than the memory",
         ),
         (
-            Refusal::Image(ImageRefusal::Header(3)),
+            Refusal::Image(ImageRefusal::Header(HeaderWord::Entry)),
             "load: refused 5 3: the entry is not a multiple of 4 inside the text",
         ),
         (
-            Refusal::Image(ImageRefusal::Header(4)),
+            Refusal::Image(ImageRefusal::Header(HeaderWord::Period)),
             "load: refused 5 4: the watchdog period is not 1 to 65535 instructions",
         ),
         (
-            Refusal::Image(ImageRefusal::Header(5)),
+            Refusal::Image(ImageRefusal::Header(HeaderWord::Outputs)),
             "load: refused 5 5: the most outputs are above 16384",
         ),
         (
-            Refusal::Image(ImageRefusal::Header(6)),
+            Refusal::Image(ImageRefusal::Header(HeaderWord::Limit)),
             "load: refused 5 6: the most instructions are 0",
-        ),
-        (
-            Refusal::Image(ImageRefusal::Header(7)),
-            "load: refused 5 7: a header word breaks its rule",
         ),
         (
             Refusal::Image(ImageRefusal::Size),
@@ -114,7 +119,7 @@ mod tests {
     #[test]
     fn refusals(rt: HostRuntime) -> Result<(), Fail> {
         for (refusal, text) in REFUSALS {
-            let line = Line::LoadRefused(Refused::from(refusal));
+            let line = Line::LoadRefused(refusal);
             assert_eq!(rt; line.to_string(rt.alloc())?.as_str(), text);
         }
         Ok(())

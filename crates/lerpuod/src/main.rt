@@ -8,8 +8,6 @@ mod file;
 mod help;
 mod hex;
 mod lines;
-mod refused;
-mod stops;
 mod story;
 mod uninterrupted;
 
@@ -21,6 +19,7 @@ use std::env;
 use std::process::ExitCode;
 use worked_examples::example_image;
 
+// An exit code and no `Result`, whose error the runtime would print once more.
 fn main(rt: HostRuntime) -> ExitCode {
     match obey(&rt) {
         Ok(()) => ExitCode::SUCCESS,
@@ -33,10 +32,7 @@ fn main(rt: HostRuntime) -> ExitCode {
 
 // Does what the arguments ask for.
 fn obey(rt: &HostRuntime) -> Result<(), Fault> {
-    let mut args = match env::args(rt) {
-        Ok(args) => args,
-        Err(error) => return Err(Fault::Arguments(error)),
-    };
+    let mut args = env::args(rt).map_err(Fault::Arguments)?;
     let _program = args.next();
     match Command::parse(args)? {
         Command::Example => uninterrupted::show(rt, &Source::Example, &example_image()),

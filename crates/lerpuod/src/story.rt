@@ -1,5 +1,4 @@
 // The program's own story, in lines that begin with `# ` for tools to pass over.
-use crate::stops::meaning;
 use hart::action::Stop;
 use image::header::Header;
 use std::io;
@@ -43,6 +42,5 @@ pub fn tell_numbers(rt: &impl Print, header: Header) -> io::Result<()> {
 /// Tells by which stop a run ended.
 pub fn tell_stop(rt: &impl Print, stop: Stop) -> io::Result<()> {
     let number = stop.number();
-    let meaning = meaning(stop);
-    println!(rt; "# it ended by stop {number}: {meaning}")
+    println!(rt; "# it ended by stop {number}: {stop}")
 }

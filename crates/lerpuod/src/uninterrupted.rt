@@ -2,27 +2,26 @@
 ghost use Rattle.std.specs.Prelude.{◌≡◌, if◌then◌else◌, nat_eq};
 ghost use Rattle.hart.specs.Registers.{reg};
 
-use crate::execution::{Outcome, Run, execute};
+use crate::execution::{NoRun, Run, execute};
 use crate::fault::Fault;
 use crate::lines::Line;
-use crate::refused::Refused;
 use crate::story::{Source, tell_numbers, tell_source, tell_stop};
 use hart::state::Hart;
 use std::io;
 
-/// The number by which users ask for pc, after those of the registers.
+/// The number by which users ask for pc, after those of the registers. Both are numbers here, since the printed lines number them.
 const PC: u8 = 32;
 
 /// Executes an image and prints its run, or why it has none.
 pub fn show(rt: &HostRuntime, source: &Source, bytes: &[u8]) -> Result<(), Fault> {
-    match execute(rt.alloc(), bytes)? {
-        Outcome::Ended(run) => {
-            tell_source(rt, source)?;
-            tell_numbers(rt, run.header)?;
-            Ok(show_run(rt, &run)?)
-        }
-        Outcome::Refused(refusal) => Ok(rt.println(Line::LoadRefused(Refused::from(refusal)))?),
-    }
+    let run = match execute(rt.alloc(), bytes) {
+        Ok(run) => run,
+        Err(NoRun::Refused(refusal)) => return Ok(rt.println(Line::LoadRefused(refusal))?),
+        Err(NoRun::Memory) => return Err(Fault::Memory),
+    };
+    tell_source(rt, source)?;
+    tell_numbers(rt, run.header)?;
+    Ok(show_run(rt, &run)?)
 }
 
 fn show_run(rt: &impl Print, run: &Run) -> io::Result<()> {
