@@ -29,6 +29,7 @@ impl Refusal {
     pub fn number(self) -> u32
         ensures { result ≡ refusal_number self }
     {
+        // a match, since a variant that holds a value cannot be cast
         match self {
             Refusal::Length => 2,
             Refusal::Header(_) => 5,

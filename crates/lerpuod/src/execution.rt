@@ -28,6 +28,7 @@ pub enum NoRun {
     Memory,
 }
 
+// By hand, all three, since the contract of `execute` names the error that each `?` makes, and no derive says which.
 impl From<image::Refusal> for NoRun {
     ghost from_gives = { λ e r. r ≡ Refused (ImageRefused e) };
 

@@ -28,6 +28,7 @@ impl Refusal {
     pub fn number(self) -> u32
         ensures { result ≡ refusal_number self }
     {
+        // a match, since a variant that holds a value cannot be cast
         match self {
             Refusal::Image(refusal) => refusal.number(),
             Refusal::TooSmall => 7,
@@ -35,6 +36,7 @@ impl Refusal {
     }
 }
 
+// By hand, since contracts name the error that a `?` makes, and no derive says which.
 impl From<image::Refusal> for Refusal {
     ghost from_gives = { λ e r. r ≡ ImageRefused e };
 

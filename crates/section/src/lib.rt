@@ -33,6 +33,7 @@ impl Refusal {
 }
 
 /// A memory refuses one thing only.
+// By hand, here and in crates above: contracts name the error that a `?` makes, and no derive says which.
 impl From<memory::Refusal> for Refusal {
     ghost from_gives = { λ _ r. r ≡ OutOfRange };
 
