@@ -3,7 +3,7 @@ use hart::action::Stop;
 use image::header::Header;
 use std::io;
 
-/// Where an image comes from.
+/// Where an image comes from. An enum, and no `Option`, since a file that is missing is nothing that `None` should mean.
 #[derive(Drop)]
 pub enum Source {
     Example,
