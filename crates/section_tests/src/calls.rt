@@ -3,10 +3,18 @@ use crate::model::{Model, SIZE, Shape};
 use memory::Memory;
 use section::section::Section;
 use std::process::Abort;
-use std::test::Fail;
 
 /// Calls made of each pile.
 const CALLS: u32 = 400;
+
+/// A call of a section memory.
+#[derive(Clone, Copy)]
+enum Call {
+    Read(usize),
+    Write { index: usize, word: u32, lanes: u32 },
+    Put { index: usize, word: u32 },
+    Forget,
+}
 
 /// A row of numbers that look random, and are the same in every run.
 #[derive(Drop)]
@@ -26,64 +34,64 @@ impl Dice {
     fn index(&mut self) -> usize {
         (self.roll() % 43) as usize
     }
+
+    // Mostly reads and writes, and half of the writes of all four bytes.
+    fn call(&mut self) -> Call {
+        let index = self.index();
+        let word = self.roll();
+        match self.roll() % 64 {
+            0..=29 => Call::Read(index),
+            30..=44 => Call::Write {
+                index,
+                word,
+                lanes: 15,
+            },
+            45..=60 => Call::Write {
+                index,
+                word,
+                lanes: self.roll() % 18,
+            },
+            61 => Call::Put { index, word },
+            _ => Call::Forget,
+        }
+    }
 }
 
 /// Makes the same calls of a pile and of its model.
-pub(crate) fn exercise<S: Section>(
-    rt: &impl Abort,
-    pile: &mut S,
-    shape: Shape,
-    seed: u32,
-) -> Result<(), Fail> {
+pub(crate) fn exercise<S: Section>(rt: &impl Abort, pile: &mut S, shape: Shape, seed: u32) {
     assert_eq!(rt; S::H, S::limit());
     assert_eq!(rt; S::H, 8 * shape.layers.min(8));
     assert_eq!(rt; (*pile).size(), SIZE);
     let mut model = Model::new(shape);
     let mut dice = Dice(seed);
     for _ in 0..CALLS {
-        call(rt, pile, &mut model, &mut dice)?;
+        make(rt, dice.call(), pile, &mut model);
         compare_pairs(rt, pile, &model);
         compare_words(rt, pile, &model);
     }
-    Ok(())
 }
 
-fn call<S: Section>(
-    rt: &impl Abort,
-    pile: &mut S,
-    model: &mut Model,
-    dice: &mut Dice,
-) -> Result<(), Fail> {
-    let index = dice.index();
-    let word = dice.roll();
-    match dice.roll() % 64 {
-        0..=29 => {
+// Makes a call of both.
+fn make<S: Section>(rt: &impl Abort, call: Call, pile: &mut S, model: &mut Model) {
+    match call {
+        Call::Read(index) => {
             assert_eq!(rt; pile.read(index), model.read(index));
-            Ok(())
-        },
-        30..=44 => {
-            assert_eq!(rt; pile.write(index, word, 15), model.write(index, word, 15));
-            Ok(())
-        },
-        45..=60 => {
-            let lanes = dice.roll() % 18;
+        }
+        Call::Write { index, word, lanes } => {
             assert_eq!(rt;
                 pile.write(index, word, lanes),
                 model.write(index, word, lanes)
             );
-            Ok(())
         }
-        61 => {
+        Call::Put { index, word } => {
             assert_eq!(rt;
                 pile.put(index, word).is_ok(),
                 model.put(index, word).is_ok()
             );
-            Ok(())
-        },
-        _ => {
+        }
+        Call::Forget => {
             pile.forget();
             model.forget();
-            Ok(())
         }
     }
 }

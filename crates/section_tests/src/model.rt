@@ -87,7 +87,7 @@ impl Model {
     pub(crate) fn read(&mut self, index: usize) -> Answer<u32> {
         let row = self.row(index)?;
         if !row.read_first && !row.write_first {
-            if self.reads() >= self.shape.most_reads {
+            if self.count(|row| row.read_first) >= self.shape.most_reads {
                 return Err(Refusal::Due);
             }
             self.rows[index].read_first = true;
@@ -116,7 +116,7 @@ impl Model {
             Row {
                 word: mixed(row.word, word, lanes),
                 write_first: row.write_first
-                    || lanes == 15 && self.writes() < self.shape.most_writes,
+                    || lanes == 15 && self.count(|row| row.write_first) < self.shape.most_writes,
                 ..row
             }
         };
@@ -137,42 +137,34 @@ impl Model {
         })
     }
 
-    fn reads(&self) -> usize {
-        self.rows.iter().filter(|row| row.read_first).count()
-    }
-
-    fn writes(&self) -> usize {
-        self.rows.iter().filter(|row| row.write_first).count()
+    // How many rows are so.
+    fn count<F: Fn(&Row) -> bool + Drop>(&self, is: F) -> usize
+        requires { F.IsAlwaysCallable is }
+    {
+        self.rows.iter().filter(|row| is(*row)).count()
     }
 
     fn pairs_of(&self, layer: usize) -> usize {
-        self.rows
-            .iter()
-            .filter(|row| row.held.is_some_and(|held| held.layer == layer))
-            .count()
+        self.count(|row| row.held.is_some_and(|held| held.layer == layer))
+    }
+
+    fn pairs_before(&self, held: Held) -> usize {
+        self.count(|row| row.held.is_some_and(|other| other.comes_before(held)))
     }
 
     pub(crate) fn pair_count(&self) -> usize {
-        self.rows.iter().filter(|row| row.held.is_some()).count()
+        self.count(|row| row.held.is_some())
     }
 
     /// Pair `k`: the one that as many others come before.
     pub(crate) fn pair(&self, k: usize) -> Answer<(u32, u32)> {
-        for (index, row) in (0..).zip(self.rows) {
-            if let Some(held) = row.held {
-                if self.pairs_before(held) == k {
-                    return Ok((index, held.word));
-                }
-            }
-        }
-        Err(Refusal::NoPair)
-    }
-
-    fn pairs_before(&self, held: Held) -> usize {
-        self.rows
-            .iter()
-            .filter(|row| row.held.is_some_and(|other| other.comes_before(held)))
-            .count()
+        let mut rows = (0..).zip(self.rows);
+        rows.find_map(|(index, row)| {
+            row.held
+                .filter(|held| self.pairs_before(*held) == k)
+                .map(|held| (index, held.word))
+        })
+        .ok_or(Refusal::NoPair)
     }
 
     pub(crate) fn forget(&mut self) {

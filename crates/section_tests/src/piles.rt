@@ -8,7 +8,6 @@ use memory::bank::WordBank;
 use section::Refusal;
 use section::detector::Detector;
 use std::process::Abort;
-use std::test::Fail;
 use write_back::layer::WriteBack;
 
 const TABLE: usize = 16;
@@ -16,52 +15,89 @@ const TABLE: usize = 16;
 // More indexes than the memory has words.
 const MARKS: usize = 64;
 
-// Zero to three layers over a detector with such sets, which hold at most so many indexes.
-fn pile_up<R: IndexSet + Copy + Drop, F: IndexSet + Copy + Drop>(
-    rt: &impl Abort,
+/// A detector's two sets, and the most indexes that each holds.
+#[derive(Drop)]
+struct Sets<R, F> {
     reads: R,
     most_reads: usize,
     writes: F,
     most_writes: usize,
-) -> Result<(), Fail> {
-    let shape = |layers| Shape {
-        most_reads,
-        most_writes,
-        layers,
+}
+
+impl<R: IndexSet + Copy, F: IndexSet + Copy> Sets<R, F> {
+    fn detector<'a>(&self, words: &'a mut [u32]) -> Detector<WordBank<'a>, R, F> {
+        Detector::new(WordBank::new(words), self.reads, self.writes)
+    }
+
+    fn shape(&self, layers: usize) -> Shape {
+        Shape {
+            most_reads: self.most_reads,
+            most_writes: self.most_writes,
+            layers,
+        }
+    }
+}
+
+// Zero to three layers over a detector with such sets.
+fn pile_up<R: IndexSet + Copy + Drop, F: IndexSet + Copy + Drop>(
+    rt: &impl Abort,
+    sets: &Sets<R, F>,
+) {
+    let mut words = [0; SIZE];
+    exercise(rt, &mut sets.detector(&mut words), sets.shape(0), 1);
+    words = [0; SIZE];
+    let mut pile = WriteBack::new(sets.detector(&mut words));
+    exercise(rt, &mut pile, sets.shape(1), 2);
+    words = [0; SIZE];
+    let mut pile = WriteBack::new(WriteBack::new(sets.detector(&mut words)));
+    exercise(rt, &mut pile, sets.shape(2), 3);
+    words = [0; SIZE];
+    let mut pile = WriteBack::new(WriteBack::new(WriteBack::new(sets.detector(&mut words))));
+    exercise(rt, &mut pile, sets.shape(3), 4);
+}
+
+#[test]
+fn tables(rt: HostRuntime) {
+    let sets = Sets {
+        reads: Table::new(),
+        most_reads: TABLE,
+        writes: Table::new(),
+        most_writes: TABLE,
     };
-    let mut words = [0; SIZE];
-    let mut pile = Detector::new(WordBank::new(&mut words), reads, writes);
-    exercise(rt, &mut pile, shape(0), 1)?;
-    let mut words = [0; SIZE];
-    let pile = Detector::new(WordBank::new(&mut words), reads, writes);
-    exercise(rt, &mut WriteBack::new(pile), shape(1), 2)?;
-    let mut words = [0; SIZE];
-    let pile = Detector::new(WordBank::new(&mut words), reads, writes);
-    exercise(rt, &mut WriteBack::new(WriteBack::new(pile)), shape(2), 3)?;
-    let mut words = [0; SIZE];
-    let pile = Detector::new(WordBank::new(&mut words), reads, writes);
-    let mut pile = WriteBack::new(WriteBack::new(WriteBack::new(pile)));
-    exercise(rt, &mut pile, shape(3), 4)
+    pile_up(&rt, &sets);
 }
 
 #[test]
-fn tables(rt: HostRuntime) -> Result<(), Fail> {
-    pile_up(&rt, Table::new(), TABLE, Table::new(), TABLE)
+fn table_and_marks(rt: HostRuntime) {
+    let sets = Sets {
+        reads: Table::new(),
+        most_reads: TABLE,
+        writes: Marks::new(),
+        most_writes: MARKS,
+    };
+    pile_up(&rt, &sets);
 }
 
 #[test]
-fn table_and_marks(rt: HostRuntime) -> Result<(), Fail> {
-    pile_up(&rt, Table::new(), TABLE, Marks::new(), MARKS)
+fn marks_and_table(rt: HostRuntime) {
+    let sets = Sets {
+        reads: Marks::new(),
+        most_reads: MARKS,
+        writes: Table::new(),
+        most_writes: TABLE,
+    };
+    pile_up(&rt, &sets);
 }
 
 #[test]
-fn marks_and_table(rt: HostRuntime) -> Result<(), Fail> {
-    pile_up(&rt, Marks::new(), MARKS, Table::new(), TABLE)
-}
-
-#[test]
-fn marks(rt: HostRuntime) -> Result<(), Fail> {
-    pile_up(&rt, Marks::new(), MARKS, Marks::new(), MARKS)
+fn marks(rt: HostRuntime) {
+    let sets = Sets {
+        reads: Marks::new(),
+        most_reads: MARKS,
+        writes: Marks::new(),
+        most_writes: MARKS,
+    };
+    pile_up(&rt, &sets);
 }
 
 #[test]
