@@ -56,7 +56,7 @@ impl HeaderWord {
     }
 }
 
-/// Tells the rule that the word breaks.
+// Tells the rule that the word breaks. Written out, since a derive says nothing of the text in `output`.
 impl fmt::Display for HeaderWord {
     ghost output = { λ w. Some (rule w) };
 

@@ -38,6 +38,7 @@ impl Refusal {
     }
 }
 
+// Written out, since a derive says nothing of the text in `output`.
 impl fmt::Display for Refusal {
     ghost output = { λ e. Some (reason e) };
 

@@ -57,6 +57,7 @@ fn uninterrupted(mut args: Args) -> Result<Command, Misuse>
 fn alone(command: Command, mut args: Args) -> Result<Command, Misuse>
     ensures { MatchResult result (λ k. (k ≡ command) × (texts args ≡ [])) (ExtraFirst (texts args)) }
 {
+    // a match is plainer: `map_or` tells the answer without an argument first, and the other in a closure
     match args.next() {
         Some(extra) => Err(Misuse::Extra(extra)),
         None => Ok(command),

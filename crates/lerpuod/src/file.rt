@@ -10,8 +10,9 @@ pub struct InputFile {
 }
 
 impl InputFile {
-    /// Reads the whole file. A `match`, since the name goes into either answer, and `map_err` would take it for the error's.
+    /// Reads the whole file.
     pub fn read(rt: &HostRuntime, name: String) -> Result<InputFile, Fault> {
+        // a match moves the name into the answer that comes; a closure for `map_err` would keep it from the other
         match fs::read(rt, name.as_str()) {
             Ok(bytes) => Ok(InputFile { name, bytes }),
             Err(error) => Err(Fault::File { name, error }),

@@ -9,7 +9,7 @@ use crate::story::{Source, tell_numbers, tell_source, tell_stop};
 use hart::state::Hart;
 use std::io;
 
-/// The number by which users ask for pc, after those of the registers. Both are numbers here, since the printed lines number them.
+/// The number by which users ask for pc, after those of the registers: the printed lines give pc and registers one row of numbers.
 const PC: u8 = 32;
 
 /// Executes an image and prints its run, or why it has none.

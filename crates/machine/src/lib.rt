@@ -45,6 +45,7 @@ impl From<image::Refusal> for Refusal {
     }
 }
 
+// Written out, since a derive says nothing of the text in `output`.
 impl fmt::Display for Refusal {
     ghost output = { λ e. Some (reason e) };
 

@@ -11,6 +11,7 @@ use memory::access::{put_at, word_at};
 use memory::lanes::merge;
 
 // Memory and log are lent at each call and are no part of the machine, as a bus is not: their owner looks at them between calls.
+// So each call says of both that what is `fixed` of them stays.
 impl Machine {
     /// One step: the reason where the machine stops, which changes nothing; otherwise one instruction.
     pub fn step<M: Memory, L: Memory>(
