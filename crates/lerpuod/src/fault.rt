@@ -1,6 +1,5 @@
 // What ends the program with status 1.
 use crate::command::Misuse;
-use std::alloc::AllocError;
 use std::io;
 use thiserror::Error;
 

@@ -3,6 +3,7 @@ ghost use Rattle.std.specs.Prelude.{Some};
 ghost use Rattle.lerpuod.specs.Lines.{line};
 
 use crate::hex::Hex;
+use hart::action::Stop;
 use machine::Refusal;
 use std::fmt;
 
@@ -19,9 +20,9 @@ pub enum Line {
         number: u8,
         word: u32,
     },
-    /// the end: its stop's number, and the counts
+    /// the end: its stop, and the counts
     End {
-        stop: u32,
+        stop: Stop,
         instructions: u32,
         outputs: u32,
     },
@@ -47,6 +48,7 @@ impl fmt::Display for Line {
                 instructions,
                 outputs,
             } => {
+                let stop = stop.number();
                 write!(
                     f,
                     "end: stop {stop}, {instructions} instructions, {outputs} outputs"

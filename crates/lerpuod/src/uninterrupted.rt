@@ -1,7 +1,4 @@
 // The command `uninterrupted`: an image executed without cuts, and what its run left.
-ghost use Rattle.std.specs.Prelude.{◌≡◌, if◌then◌else◌, nat_eq};
-ghost use Rattle.hart.specs.Registers.{reg};
-
 use crate::execution::{NoRun, Run, execute};
 use crate::fault::Fault;
 use crate::lines::Line;
@@ -9,7 +6,7 @@ use crate::story::{Source, tell_numbers, tell_source, tell_stop};
 use hart::state::Hart;
 use std::io;
 
-/// The number by which users ask for pc, after those of the registers: the printed lines give pc and registers one row of numbers.
+/// The number by which users know pc, after those of the registers.
 const PC: u8 = 32;
 
 /// Executes an image and prints its run, or why it has none.
@@ -33,7 +30,7 @@ fn show_run(rt: &impl Print, run: &Run) -> io::Result<()> {
     print_outputs(rt, run.outputs.as_slice())?;
     print_registers(rt, &run.end.core.hart)?;
     rt.println(Line::End {
-        stop: stop.number(),
+        stop,
         instructions,
         outputs,
     })
@@ -50,22 +47,14 @@ fn print_outputs(rt: &impl Print, outputs: &[u32]) -> io::Result<()> {
 }
 
 fn print_registers(rt: &impl Print, hart: &Hart) -> io::Result<()> {
-    for number in 0..=PC {
+    for number in 0..PC {
         rt.println(Line::Register {
             number,
-            word: register(hart, number),
+            word: hart.read(number),
         })?;
     }
-    Ok(())
-}
-
-// A register, or pc.
-fn register(hart: &Hart, number: u8) -> u32
-    ensures { result ≡ (if nat_eq number 32 then hart.now.pc else reg hart.now.x number) }
-{
-    if number == PC {
-        hart.pc
-    } else {
-        hart.read(number)
-    }
+    rt.println(Line::Register {
+        number: PC,
+        word: hart.pc,
+    })
 }
