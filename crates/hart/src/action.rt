@@ -69,7 +69,8 @@ impl fmt::Display for Stop {
 
 /// What the next instruction does.
 ///
-/// An enum, and no closure: every machine that carries it out does so over memories of its own kind.
+/// An enum, and no closure: every machine that carries it out does so over memories of its own kind. A stop is one of the answers, and
+/// no error, as `plan` cannot fail. Register 0 stands where no register is written, as by the instruction set it drops what is.
 #[derive(Clone, Copy, PartialEq, Eq, Debug)]
 pub enum Action {
     /// nothing: the machine stops
