@@ -5,6 +5,7 @@ ghost use Rattle.image.specs.Refusals.{position as position_of, rule};
 
 use crate::Refusal;
 use memory::bytes::word_at;
+use std::array::from_fn;
 use std::fmt;
 
 /// The length of a header.
@@ -81,14 +82,16 @@ impl Header {
         requires { 28 ≤ length bytes.now }
         ensures { result ≡ header_of bytes.now }
     {
+        let in_order: [u32; 7] = from_fn(|k| word_at(bytes, k).unwrap());
+        let [words, text, given, entry, period, outputs, limit] = in_order;
         Header {
-            words: word_at(bytes, 0).unwrap(),
-            text: word_at(bytes, 1).unwrap(),
-            given: word_at(bytes, 2).unwrap(),
-            entry: word_at(bytes, 3).unwrap(),
-            period: word_at(bytes, 4).unwrap(),
-            outputs: word_at(bytes, 5).unwrap(),
-            limit: word_at(bytes, 6).unwrap(),
+            words,
+            text,
+            given,
+            entry,
+            period,
+            outputs,
+            limit,
         }
     }
 
