@@ -1,5 +1,5 @@
 // The write-back layer: room for held pairs over any section memory.
-ghost use Rattle.std.specs.Prelude.{◌≡◌, ◌<◌, ◌≤◌, [], length, slice_index};
+ghost use Rattle.std.specs.Prelude.{◌≡◌, ◌<◌, ◌≤◌, [], length, min, slice_index};
 ghost use Rattle.memory.specs.Lanes.{merged};
 ghost use Rattle.memory.specs.Words.{Put};
 ghost use Rattle.section.specs.Calls.{Write};
@@ -72,7 +72,14 @@ fn most_over(lower: usize) -> usize
     requires { lower ≤ 64 }
     ensures { result ≡ most_over lower }
 {
-    (lower + MOST_OWN).min(MOST_PAIRS)
+    capped(lower + MOST_OWN)
+}
+
+// The sum, but no more than any section memory holds.
+const fn capped(sum: usize) -> usize
+    ensures { result ≡ min 64 sum }
+{
+    if sum < MOST_PAIRS { sum } else { MOST_PAIRS }
 }
 
 impl<S: Section> Memory for WriteBack<S> {
@@ -102,11 +109,7 @@ impl<S: Section> Memory for WriteBack<S> {
 }
 
 impl<S: Section> Section for WriteBack<S> {
-    // `limit` answers the same; a constant's value can call neither it nor `min`.
-    const H: usize = {
-        let sum = S::H.wrapping_add(MOST_OWN);
-        if sum < MOST_PAIRS { sum } else { MOST_PAIRS }
-    };
+    const H: usize = capped(S::H.wrapping_add(MOST_OWN));
 
     ghost most = { most_over S.Section.most };
 
