@@ -1,5 +1,5 @@
 -- Lists of words as functions from index to word.
-use Rattle.std.proofs.Common.{◌≡◌, ℕ, ◌+◌, ◌<◌, ◌≤◌, ◌≢◌, List, ◌++◌, length, get_or, drop, set, sym, ◌∙◌, arith, length-append, length-drop}
+use Rattle.std.proofs.Common.{◌≡◌, ℕ, ◌<◌, ◌≤◌, ◌≢◌, List, ◌++◌, length, drop, set, sym, ◌∙◌, arith, length-append, length-drop}
 use mathlib.Core.Path.{fun_ext}
 use Rattle.std.proofs.lemmas.List.FromFn.{length-map-range_with_len, get_or-map-range_with_len}
 use Rattle.std.proofs.lemmas.List.{get_or-set_same, get_or-set_other, ext_get_or, get_or_append_left, get_or-append_right, get_or-drop}
@@ -18,21 +18,15 @@ pub word_set : (ws : List ℕ) (i w : ℕ) → i < length ws → word (set ws i 
 unfolding put
 word_set ws i w h = fun_ext λ j. grind (arith, get_or-set_same, get_or-set_other)
 
-pub length_words : (m : Mem) (a n : ℕ) → length (words_from m a n) ≡ n
-length_words m a n = length-map-range_with_len m a n
-
-pub words_read : (m : Mem) (a n k j : ℕ) → k < n → a + k ≡ j → get_or (words_from m a n) k 0 ≡ m j
-words_read m a n k j h e = get_or-map-range_with_len m a n k j 0 h e
-
 -- a list whose first n words are those of m: its words and its length
 pub fronted_low : (m : Mem) (n : ℕ) (ws : List ℕ) (k : ℕ) → k < n → word (words_from m 0 n ++ drop n ws) k ≡ m k
-fronted_low m n ws k h = grind (arith, get_or_append_left, length_words, words_read)
+fronted_low m n ws k h = grind (arith, get_or_append_left, length-map-range_with_len, get_or-map-range_with_len)
 
 pub fronted_high : (m : Mem) (n : ℕ) (ws : List ℕ) (k : ℕ) → n ≤ k → word (words_from m 0 n ++ drop n ws) k ≡ word ws k
-fronted_high m n ws k h = grind (arith, get_or-append_right, get_or-drop, length_words)
+fronted_high m n ws k h = grind (arith, get_or-append_right, get_or-drop, length-map-range_with_len)
 
 pub fronted_length : (m : Mem) (n : ℕ) (ws : List ℕ) → n ≤ length ws → length (words_from m 0 n ++ drop n ws) ≡ length ws
-fronted_length m n ws h = grind (arith, length-append, length_words, length-drop)
+fronted_length m n ws h = grind (arith, length-append, length-map-range_with_len, length-drop)
 
 -- and a list is known by these
 pub fronted : (m : Mem) (n : ℕ) (ws ws' : List ℕ) → n ≤ length ws → length ws' ≡ length ws

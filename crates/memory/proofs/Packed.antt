@@ -60,18 +60,21 @@ module _ (bs : List ℕ) (i w : ℕ) (low : i < packed_size bs) (fits : w < 4294
   written_word : (k : ℕ) → k < packed_size written → get_or (set (packed bs) i w) k 0 ≡ word_at written k
   written_word k h = grind (arith, cases_eq k i, get_or-set_same, get_or-set_other, packed_length, packed_at, same_size, word_same, word_other)
 
-  pub packed_put : packed written ≡ set (packed bs) i w
-  packed_put =
+  packed_written : packed written ≡ set (packed bs) i w
+  packed_written =
       sym (fill_by_all (word_at written) (set (packed bs) i w) (packed_size written) 0
       (length-set (packed bs) i w ∙ packed_length bs ∙ sym same_size)
       written_word)
 
   -- a write to a part of the row leaves it so
-  pub written_is : (n : ℕ) (ws : List ℕ) → n ≡ 4 → ws ≡ to_le_bytes w32 w → put_mid (4 * i) n bs ws ≡ written
-  written_is n ws e f = let room : 4 * i + 4 ≤ length bs = omega arith in rw (e, f, put_chunk_is)
+  module _ (n : ℕ) (ws : List ℕ) (four : n ≡ 4) (bytes : ws ≡ to_le_bytes w32 w) where
+    written_is : put_mid (4 * i) n bs ws ≡ written
+    written_is = let room : 4 * i + 4 ≤ length bs = omega arith in rw (four, bytes, put_chunk_is)
 
-  pub beside_put : beside written ≡ beside bs
-  beside_put =
-      ap (λ (z : ℕ). drop (4 * z) written) same_size
-      ∙ ap (drop (4 * packed_size bs)) (sym (written_is 4 (to_le_bytes w32 w) refl refl))
-      ∙ drop-put_mid (4 * i) 4 bs (to_le_bytes w32 w) (4 * packed_size bs) (omega arith) (omega arith) refl
+    pub packed_put : packed (put_mid (4 * i) n bs ws) ≡ set (packed bs) i w
+    packed_put = ap packed written_is ∙ packed_written
+
+    pub beside_put : beside (put_mid (4 * i) n bs ws) ≡ beside bs
+    beside_put =
+        ap (λ (z : ℕ). drop (4 * z) (put_mid (4 * i) n bs ws)) (ap packed_size written_is ∙ same_size)
+        ∙ drop-put_mid (4 * i) n bs ws (4 * packed_size bs) (omega arith) (omega arith) (ap length bytes ∙ sym four)
