@@ -1,12 +1,11 @@
 -- The set of what is in a row, and one index more at its end.
-use Rattle.std.specs.Prelude.{◌≡◌, ℕ, ◌+◌, ◌<◌, true, false, ◌≢◌, List, [], ◌∷◌, ◌++◌, length, take, ◌==◌, Some, None, Option, is_some, slice_index, slice_index_or, slice_set}
+use Rattle.std.specs.Prelude.{◌≡◌, ℕ, ◌+◌, ◌<◌, true, false, ◌≢◌, List, length, take, ◌==◌, Some, None, Option, is_some, slice_index, slice_index_or, slice_set}
 use Rattle.std.proofs.Common.{sym, ap, ◌∙◌, ⊎_elim, arith}
 use Rattle.std.proofs.lemmas.Bool.{eq-eqb, ne_eqb, cases_eq, false≢true}
-use Rattle.std.proofs.lemmas.Bool.Decides.{nat_tests}
-use Rattle.std.proofs.lemmas.List.{get_or-set_same, get_or-set_other, get_or-take, get_or_default, length-take, take_more_set}
-use Rattle.std.proofs.lemmas.List.Folds.{list_any_at, list_any_none, list_any-append}
+use Rattle.std.proofs.lemmas.List.{get_or-set_same, get_or-set_other, get_or-take, get_or_default, length-take}
+use Rattle.std.proofs.lemmas.List.Folds.{list_any_at, list_any_none}
 use Rattle.index_sets.specs.Finding.{Found}
-use Rattle.index_sets.specs.Sets.{joined, among}
+use Rattle.index_sets.specs.Sets.{among}
 
 pub among_at : (xs : List ℕ) (j i : ℕ) → j < length xs → slice_index xs j ≡ i → among xs i ≡ true
 among_at xs j i h e = list_any_at (λ x. i == x) xs j 0 h (eq-eqb i (slice_index xs j) (sym e))
@@ -16,12 +15,6 @@ pub among_found : (xs : List ℕ) (i : ℕ) (r : Option ℕ) → Found xs i r �
 among_found xs i (Some k) f = sym (among_at xs k i f.0 f.1)
 among_found xs i None f =
     sym (list_any_none (λ x. i == x) xs (λ k d l. ne_eqb i _ (λ e. f k l (get_or_default xs k 0 d l ∙ sym e))))
-
-among_push_at : (xs : List ℕ) (i k : ℕ) → among (xs ++ i ∷ []) k ≡ joined (among xs) i k
-among_push_at xs i k = let h = list_any-append (λ x. k == x) xs (i ∷ []) in grind (arith, nat_tests)
-
-pub among_push : (xs : List ℕ) (i : ℕ) → among (xs ++ i ∷ []) ≡ joined (among xs) i
-among_push xs i = λ p k. among_push_at xs i k p
 
 -- ---- one index more at the end of a row in use up to n
 module _ (xs : List ℕ) (n i : ℕ) (room : n < length xs) where
@@ -44,6 +37,3 @@ module _ (xs : List ℕ) (n i : ℕ) (room : n < length xs) where
       false≢true (sym new ∙ t))
       (λ (nk : k ≢ n). h j k lt (omega arith) (sym a ∙ e ∙ get_or-set_other xs n k i 0 nk))
       (cases_eq k n)
-
-  pub among_more : among (take (n + 1) (slice_set xs n i)) ≡ joined (among (take n xs)) i
-  among_more = ap among (take_more_set xs n i room) ∙ among_push (take n xs) i

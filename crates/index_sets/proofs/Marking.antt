@@ -37,10 +37,7 @@ module _ (ws : List ℕ) (i : ℕ) (low : i < 16384) (room : i / 32 < length ws)
 
 -- ---- no bit set
 zeros_at : (n k : ℕ) → ◌≡◌ {A = ℕ} (slice_index (replicate n 0) k) 0
-zeros_at n k =
-    ⊎_elim (get_or-replicate n k 0 0)
-    (λ l. get_or_past (replicate n 0) k 0 (let e = length-replicate {A = ℕ} n 0 in omega arith))
-    (cases_lt k n)
+zeros_at n k = grind (arith, cases_lt k n, get_or-replicate, get_or_past, length-replicate)
 
 marked_none_at : (k : ℕ) → marked (replicate 512 0) k ≡ none k
 marked_none_at k =

@@ -1,7 +1,7 @@
 use Rattle.std.proofs.Common.{◌<◌, length, get_or, sym, refl, arith}
 use Rattle.std.proofs.lemmas.List.{length-take}
 use Rattle.index_sets.specs.Tables.{indexes}
-use Rattle.index_sets.proofs.Among.{among_at, small_push, apart_push, among_more}
+use Rattle.index_sets.proofs.Among.{among_at, small_push, apart_push}
 use Rattle.index_sets.proofs.table.TableIndexSet.add.Goals as goal
 
 pub returns-then-self-ge-ROOM-clause-took : goal.returns-then-self-ge-ROOM-clause-took
@@ -24,6 +24,3 @@ invariant_of-self c =
       small = small_push _ _ _ room c.if-index-ge-MOST_INDEXES.false c.args.self.now.small;
       apart = apart_push _ _ _ room (sym c.if-has.ensures) c.args.self.now.apart;
     }
-
-pub returns-clause-took : goal.returns-clause-took
-returns-clause-took c = ((λ h. absurd (omega arith)), λ _. among_more _ _ _ (omega arith))
