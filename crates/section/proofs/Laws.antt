@@ -1,6 +1,6 @@
 -- What follows from the meaning of the calls.
-use Rattle.std.proofs.Common.{◌≡◌, ℕ, ◌<◌, ◌≤◌, Bool, true, false, cond, ◌||◌, eqb, ◌≢◌, ◌⊎◌, List, length, get_or, set, Some, None, Ok, Err, Option, Result, sym, refl, ap, ◌∙◌, subst, inl, inr, ⊎_elim, arith}
-use Rattle.std.proofs.lemmas.Bool.{eq-eqb, ne_eqb, eqb-true, cond-true, cond-false, cases_eq, cases_lt, cases_Bool, false≢true, or_cases, or_parts}
+use Rattle.std.proofs.Common.{◌≡◌, ℕ, ◌<◌, Bool, true, false, cond, ◌||◌, eqb, ◌≢◌, ◌⊎◌, List, length, get_or, set, Some, None, Ok, Err, Option, Result, sym, refl, ap, ◌∙◌, subst, inl, inr, ⊎_elim, arith}
+use Rattle.std.proofs.lemmas.Bool.{eqb-true, cases_eq, cases_lt, cases_Bool, false≢true, or_cases, or_parts}
 use Rattle.std.proofs.lemmas.List.{get_or-set_same, get_or-set_other}
 use Rattle.memory.specs.Lanes.{merged}
 use Rattle.index_sets.specs.Sets.{joined}
@@ -10,7 +10,7 @@ use Rattle.std.specs.Option.{unwrap_or}
 use Rattle.section.specs.View.{View, Facts, fresh, held, seen}
 use Rattle.section.specs.Calls.{known, with_read, Entered, Read, Declined, Stored, HeldBack, Kept, Write}
 use Rattle.section.specs.Laws.{SectionLaws}
-use Rattle.section.proofs.Pairs.{some_none, cases_option, holds_other}
+use Rattle.section.proofs.Pairs.{by_test, cases_option, holds_same, holds_other}
 
 pub refused_not_ok : {A : Type 0} (n : ℕ) (r : Result A Refusal) (x : A) → Refused n r → r ≡ Ok x → ⊥
 refused_not_ok n (Ok y) x f e = f
@@ -18,12 +18,8 @@ refused_not_ok n (Err y) x f e = let z : ◌≡◌ {A = ℕ} 0 1 = cc in omega a
 
 -- one word set in a list, read as a test of the index
 word_put : (ws : List ℕ) (i w : ℕ) → i < length ws → (k : ℕ) → get_or (set ws i w) k 0 ≡ cond (eqb k i) w (get_or ws k 0)
-word_put ws i w low k =
-    ⊎_elim
-    (λ (q : k ≡ i).
-    ap (λ (z : ℕ). get_or (set ws i w) z 0) q ∙ get_or-set_same ws i w 0 low ∙ sym (cond-true (eqb k i) w (get_or ws k 0) (eq-eqb k i q)))
-    (λ (ne : k ≢ i). get_or-set_other ws i k w 0 ne ∙ sym (cond-false (eqb k i) w (get_or ws k 0) (ne_eqb k i ne)))
-    (cases_eq k i)
+word_put ws i w low =
+    by_test (λ k. get_or (set ws i w) k 0) (λ k. get_or ws k 0) i w (get_or-set_same ws i w 0 low) (λ k. get_or-set_other ws i k w 0)
 
 -- ---- what a read comes to
 pub data ReadOutcome (ws : List ℕ) (v : View) (i : ℕ) (r : Result ℕ Refusal) (v' : View) : Type 0 where
@@ -94,44 +90,26 @@ not_held h v i s f =
     ⊎_elim (λ e. e) (λ (p : (w : ℕ) × (held v.pairs i ≡ Some w)). absurd (false≢true (sym f ∙ s.inside i p.0 p.1)))
     (cases_option (held v.pairs i))
 
-seen_by : (ws ws' : List ℕ) (v v' : View) (i n : ℕ) → seen ws' v' i ≡ n → ((k : ℕ) → k ≢ i → seen ws' v' k ≡ seen ws v k) →
-    (k : ℕ) → seen ws' v' k ≡ cond (eqb k i) n (seen ws v k)
-seen_by ws ws' v v' i n at other k =
-    ⊎_elim (λ (q : k ≡ i). ap (seen ws' v') q ∙ at ∙ sym (cond-true (eqb k i) n (seen ws v k) (eq-eqb k i q)))
-    (λ (ne : k ≢ i). other k ne ∙ sym (cond-false (eqb k i) n (seen ws v k) (ne_eqb k i ne)))
-    (cases_eq k i)
-
 seen_written : (h : ℕ) (ws : List ℕ) (v : View) (i new lanes : ℕ) (ws' : List ℕ) (v' : View) → Facts h v →
     WriteOutcome h ws v i new lanes (Ok tt) ws' v' → (k : ℕ) → seen ws' v' k ≡ cond (eqb k i) new (seen ws v k)
 seen_written h ws v i new lanes ws' v' s (refused out _ _) = absurd (out refl)
 seen_written h ws v i new lanes ws' v' s (in_place low f st) =
     let words : (k : ℕ) → get_or ws' k 0 ≡ get_or (set ws i new) k 0 = λ k. ap (λ (z : List ℕ). get_or z k 0) st.words in
     let pairs : (k : ℕ) → held v'.pairs k ≡ held v.pairs k = λ k. ap (λ (z : List (ℕ × ℕ)). held z k) st.pairs in
-    seen_by ws ws' v v' i new
+    by_test (seen ws' v') (seen ws v) i new
     (ap (λ (o : Option ℕ). unwrap_or o (get_or ws' i 0)) (pairs i ∙ not_held h v i s f) ∙ words i ∙ get_or-set_same ws i new 0 low)
     (λ k ne.
     ap (λ (o : Option ℕ). unwrap_or o (get_or ws' k 0)) (pairs k)
     ∙ ap (unwrap_or (held v.pairs k)) (words k ∙ get_or-set_other ws i k new 0 ne))
 seen_written h ws v i new lanes ws' v' s (held_back t st) =
     let words : (k : ℕ) → get_or ws' k 0 ≡ get_or ws k 0 = λ k. ap (λ (z : List ℕ). get_or z k 0) st.words in
-    seen_by ws ws' v v' i new
-    (ap (λ (o : Option ℕ). unwrap_or o (get_or ws' i 0)) (st.holds i ∙ cond-true (eqb i i) (Some new) (held v.pairs i) (eq-eqb i i refl)))
+    by_test (seen ws' v') (seen ws v) i new
+    (ap (λ (o : Option ℕ). unwrap_or o (get_or ws' i 0)) (holds_same v.pairs i new v'.pairs st.holds))
     (λ k ne.
     ap (λ (o : Option ℕ). unwrap_or o (get_or ws' k 0)) (holds_other v.pairs i new v'.pairs st.holds k ne)
     ∙ ap (unwrap_or (held v.pairs k)) (words k))
 
 -- ---- the facts
-pub fresh_facts : (h : ℕ) → h ≤ 64 → Facts h fresh
-fresh_facts h l =
-    record {
-      below = λ k a. absurd (false≢true a);
-      disjoint = λ k a b. false≢true a;
-      apart = tt;
-      inside = λ k w e. absurd (some_none None w e refl);
-      few = omega arith;
-      cap = l;
-    }
-
 -- a member of a set with i in it is i or was in the set
 joined_cases : (m : ℕ → Bool) (i k : ℕ) → joined m i k ≡ true → (k ≡ i) ⊎ (m k ≡ true)
 joined_cases m i k e = ⊎_elim (λ q. inl (eqb-true k i q)) inr (or_cases (eqb k i) (m k) e)

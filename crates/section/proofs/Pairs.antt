@@ -1,10 +1,13 @@
 -- Lists of pairs: what they hold, one list after another, another word in a pair, one pair more.
 use Rattle.std.proofs.Common.{◌≡◌, ℕ, zero, suc, ◌<◌, cond, eqb, ◌≢◌, ◌⊎◌, List, [], ◌∷◌, ◌++◌, length, get_or, set, Some, None, Option, sym, refl, ap, ◌∙◌, inl, inr, ⊎_elim, arith}
-use Rattle.std.proofs.lemmas.Bool.{eq-eqb, ne_eqb, cond-true, cond-false, cases_eq}
+use Rattle.std.proofs.lemmas.Bool.{eqb-true, eqb-false, eq-eqb, ne_eqb, cond-true, cond-false, cond_both, cases_eq}
+use Rattle.std.proofs.lemmas.Option.{none-some}
 use Rattle.section.specs.View.{held, replaced, Apart}
 
-pub some_none : (o : Option ℕ) (w : ℕ) → o ≡ Some w → o ≡ None → ⊥
-some_none o w a b = let z : ◌≡◌ {A = ℕ} 0 1 = cc in omega arith
+-- a function that is n at i, and elsewhere another one
+pub by_test : {A : Type 0} (f g : ℕ → A) (i : ℕ) (n : A) → f i ≡ n → ((k : ℕ) → k ≢ i → f k ≡ g k) → (k : ℕ) → f k ≡ cond (eqb k i) n (g k)
+by_test f g i n at other k =
+    cond_both (eqb k i) n (g k) (λ z. f k ≡ z) (λ e. ap f (eqb-true k i e) ∙ at) (λ e. other k (eqb-false k i e))
 
 pub cases_option : (o : Option ℕ) → (o ≡ None) ⊎ ((w : ℕ) × (o ≡ Some w))
 cases_option None = inl refl
@@ -19,7 +22,7 @@ module _ (p : ℕ × ℕ) (ps : List (ℕ × ℕ)) (k : ℕ) where
   held_tail ne = cond-false (eqb k p.0) (Some p.1) (held ps k) (ne_eqb k p.0 ne)
 
   pub none_head : held (p ∷ ps) k ≡ None → k ≢ p.0
-  none_head e q = some_none (held (p ∷ ps) k) p.1 (held_head q) e
+  none_head e q = none-some p.1 (sym e ∙ held_head q)
 
   pub none_tail : held (p ∷ ps) k ≡ None → held ps k ≡ None
   none_tail e = sym (held_tail (none_head e)) ∙ e
@@ -42,7 +45,7 @@ pub append_none : (ps qs : List (ℕ × ℕ)) (k : ℕ) → held qs k ≡ None �
 append_none ps qs k e = append_same ps qs [] k e ∙ append_nil ps k
 
 pub append_some : (ps qs : List (ℕ × ℕ)) (k w : ℕ) → held ps k ≡ Some w → held (ps ++ qs) k ≡ Some w
-append_some [] qs k w e = absurd (some_none None w e refl)
+append_some [] qs k w e = absurd (none-some w e)
 append_some (p ∷ ps) qs k w e =
     ⊎_elim (λ (q : k ≡ p.0). held_head p (ps ++ qs) k q ∙ sym (held_head p ps k q) ∙ e)
     (λ (ne : k ≢ p.0). held_tail p (ps ++ qs) k ne ∙ append_some ps qs k w (sym (held_tail p ps k ne) ∙ e))
@@ -60,7 +63,7 @@ apart_cross [] qs a k w e = refl
 apart_cross (p ∷ ps) qs a k w e =
     let h = apart_cross ps qs a.1 k w e in
     ⊎_elim
-    (λ (q : k ≡ p.0). absurd (some_none (held qs k) w e (sym (none_append ps qs k h) ∙ ap (held (ps ++ qs)) q ∙ a.0)))
+    (λ (q : k ≡ p.0). absurd (none-some w (sym a.0 ∙ ap (held (ps ++ qs)) (sym q) ∙ none_append ps qs k h ∙ e)))
     (λ ne. held_tail p ps k ne ∙ h)
     (cases_eq k p.0)
 
@@ -84,10 +87,7 @@ Holds ps i n ps' = (k : ℕ) → held ps' k ≡ cond (eqb k i) (Some n) (held ps
 
 pub holds_by : (ps : List (ℕ × ℕ)) (i n : ℕ) (ps' : List (ℕ × ℕ)) → held ps' i ≡ Some n →
     ((k : ℕ) → k ≢ i → held ps' k ≡ held ps k) → Holds ps i n ps'
-holds_by ps i n ps' same other k =
-    ⊎_elim (λ (q : k ≡ i). ap (held ps') q ∙ same ∙ sym (cond-true (eqb k i) (Some n) (held ps k) (eq-eqb k i q)))
-    (λ (ne : k ≢ i). other k ne ∙ sym (cond-false (eqb k i) (Some n) (held ps k) (ne_eqb k i ne)))
-    (cases_eq k i)
+holds_by ps i n ps' = by_test (held ps') (held ps) i (Some n)
 
 module _ (ps : List (ℕ × ℕ)) (i n : ℕ) (ps' : List (ℕ × ℕ)) (h : Holds ps i n ps') where
   pub holds_same : held ps' i ≡ Some n
@@ -116,7 +116,7 @@ module _ (i n : ℕ) where
       apart_join ps ((i, n) ∷ []) a (refl, tt)
       (λ k w s.
       ⊎_elim (λ (q : k ≡ i). ap (held ps) q ∙ e)
-      (λ (ne : k ≢ i). absurd (some_none (held ((i, n) ∷ []) k) w s (held_tail (i, n) [] k ne)))
+      (λ (ne : k ≢ i). absurd (none-some w (sym (held_tail (i, n) [] k ne) ∙ s)))
       (cases_eq k i))
 
 -- ---- the pair at a place
@@ -125,7 +125,7 @@ held_at [] i k a h e = absurd (omega arith)
 held_at (p ∷ ps) i zero a h e = held_head p ps i (sym e)
 held_at (p ∷ ps) i (suc k) a h e =
     let rest = held_at ps i k a.1 (omega arith) e in
-    held_tail p ps i (λ q. some_none (held ps i) _ rest (ap (held ps) q ∙ a.0)) ∙ rest
+    held_tail p ps i (λ q. none-some _ (sym a.0 ∙ ap (held ps) (sym q) ∙ rest)) ∙ rest
 
 -- ---- another word in the pair for i
 module _ (i n : ℕ) where
@@ -161,7 +161,7 @@ module _ (i n : ℕ) where
   replaced_length (p ∷ ps) = ap suc (replaced_length ps)
 
   replaced_same : (ps : List (ℕ × ℕ)) (old : ℕ) → held ps i ≡ Some old → held (replaced ps i n) i ≡ Some n
-  replaced_same [] old e = absurd (some_none None old e refl)
+  replaced_same [] old e = absurd (none-some old e)
   replaced_same (p ∷ ps) old e =
       ⊎_elim
       (λ (q : i ≡ p.0).
@@ -206,5 +206,5 @@ module _ (i n : ℕ) where
       ∙ ap (λ (z : List (ℕ × ℕ)). swap p ∷ z) (sym (replaced_none ps (ap (held ps) (sym e) ∙ a.0)))
   replaced_at (p ∷ ps) (suc k) a h e =
       let rest = held_at ps i k a.1 (omega arith) e in
-      ap (λ (z : ℕ × ℕ). z ∷ set ps k (i, n)) (sym (swap_other p (λ q. some_none (held ps i) _ rest (ap (held ps) q ∙ a.0))))
+      ap (λ (z : ℕ × ℕ). z ∷ set ps k (i, n)) (sym (swap_other p (λ q. none-some _ (sym a.0 ∙ ap (held ps) (sym q) ∙ rest))))
       ∙ ap (λ (z : List (ℕ × ℕ)). swap p ∷ z) (replaced_at ps k a.1 (omega arith) e)
