@@ -1,17 +1,19 @@
 -- The calls of a write-back layer, by those of the section memory below it.
-use Rattle.std.proofs.Common.{◌≡◌, ℕ, ◌<◌, ◌≤◌, true, ◌⊎◌, List, [], ◌∷◌, ◌++◌, length, get_or, set, Some, None, Ok, Err, Option, Result, sym, refl, ap, ◌∙◌, subst, inl, inr, ⊎_elim, arith}
+use Rattle.std.proofs.Common.{◌≡◌, ℕ, ◌<◌, ◌≤◌, true, false, ◌⊎◌, List, [], ◌∷◌, ◌++◌, length, get_or, set, Some, None, Ok, Err, Option, Result, sym, refl, ap, ◌∙◌, subst, inl, inr, ⊎_elim, arith}
 use Rattle.std.proofs.lemmas.Bool.{cases_Bool, false≢true, or_left}
+use Rattle.std.proofs.lemmas.Option.{none-some}
 use Rattle.std.proofs.lemmas.List.{append_assoc, length-append, length_push}
 use Rattle.memory.specs.Lanes.{merged}
 use Rattle.section.specs.declared.Refusal.{Refusal}
 use Rattle.std.specs.Option.{unwrap_or}
-use Rattle.section.specs.View.{View, Facts, held, seen, replaced, Apart}
+use Rattle.section.specs.View.{View, Facts, Meant, held, seen, replaced, Apart}
 use Rattle.section.specs.Calls.{known, Entered, Read, HeldBack, Kept, Write}
 use Rattle.section.specs.declared.Refusal.TheVariants.{OutOfRange, Due, Lanes, NoPair}
 use Rattle.section.specs.Refusals.{number, Refused}
 use Rattle.write_back.specs.Own.{Changed}
-use Rattle.write_back.specs.Layer.{most_over, room_over, layered, Taken, InOrder}
-use Rattle.section.proofs.Pairs.{Holds, some_none, none_append, append_none, apart_cross, apart_right, apart_join, holds_other, holds_append, push_holds, push_apart, replaced_append, replaced_holds, replaced_apart, replaced_length}
+use Rattle.write_back.specs.declared.layer.WriteBack.{WriteBack}
+use Rattle.write_back.specs.Layer.{most_over, room_over, layered, over, AllFacts, Taken, InOrder}
+use Rattle.section.proofs.Pairs.{Holds, none_append, append_none, apart_cross, apart_right, apart_join, holds_other, holds_append, push_holds, push_apart, replaced_append, replaced_holds, replaced_apart, replaced_length}
 use Rattle.section.proofs.Laws.{section_laws}
 
 due : (x : Refusal) → number x ≡ 21 → x ≡ Due
@@ -90,7 +92,7 @@ module _ (h : ℕ) (ws : List ℕ) (v : View) (ps : List (ℕ × ℕ)) (i old : 
           holds = subst (Holds (v.pairs ++ ps) i new) (sym row) (replaced_holds i new (v.pairs ++ ps) old above_some);
           apart = subst Apart (sym row) (replaced_apart i new (v.pairs ++ ps) s.apart);
           few = omega (arith, ap length row, replaced_length i new (v.pairs ++ ps), s.few);
-          room = λ n. absurd (some_none (held (v.pairs ++ ps) i) old above_some n);
+          room = λ n. absurd (none-some old (sym n ∙ above_some));
         }
 
   pub write_own : (w lanes : ℕ) → i < length ws → 0 < lanes → lanes ≤ 15 →
@@ -106,7 +108,7 @@ module _ (h : ℕ) (ws : List ℕ) (v : View) (ps : List (ℕ × ℕ)) (i old : 
       }
 
 -- ---- all that a layer's write promises, over a section memory that holds at most h pairs
-pub record LayerWrite (h : ℕ) (ws : List ℕ) (v : View) (ps : List (ℕ × ℕ)) (i w lanes : ℕ)
+record LayerWrite (h : ℕ) (ws : List ℕ) (v : View) (ps : List (ℕ × ℕ)) (i w lanes : ℕ)
     (r : Result (Unit {0}) Refusal) (ws' : List ℕ) (v' : View) (ps' : List (ℕ × ℕ)) : Type 0 where
   pub write : Write (most_over h) ws (layered v ps) i w lanes r ws' (layered v' ps')
   pub facts : Facts (most_over h) (layered v' ps')
@@ -130,7 +132,7 @@ module _ (h : ℕ) (ws : List ℕ) (v : View) (ps : List (ℕ × ℕ)) (i w lane
       }
 
   -- an index with an own pair
-  pub changed : (ps' : List (ℕ × ℕ)) → Changed ps i w lanes true ps' → LayerWrite h ws v ps i w lanes (Ok tt) ws v ps'
+  changed : (ps' : List (ℕ × ℕ)) → Changed ps i w lanes true ps' → LayerWrite h ws v ps i w lanes (Ok tt) ws v ps'
   changed ps' c =
       let new = merged c.0 w lanes in
       promised (Ok tt) ws v ps'
@@ -153,7 +155,7 @@ module _ (h : ℕ) (ws : List ℕ) (v : View) (ps : List (ℕ × ℕ)) (i w lane
           apart =
               apart_join v'.pairs ps st.apart (apart_right v.pairs ps s.apart)
               (λ k x e.
-              holds_other v.pairs i new v'.pairs st.holds k (λ q. some_none (held ps k) x e (ap (held ps) q ∙ out))
+              holds_other v.pairs i new v'.pairs st.holds k (λ q. none-some x (sym out ∙ ap (held ps) (sym q) ∙ e))
               ∙ apart_cross v.pairs ps s.apart k x e);
           few = fits h v'.pairs ps s₀.cap st.few room;
           room = λ n. fits_more h v.pairs ps s₀.cap (st.room (sym (append_none v.pairs ps i out) ∙ n)) room;
@@ -197,7 +199,7 @@ module _ (h : ℕ) (ws : List ℕ) (v : View) (ps : List (ℕ × ℕ)) (i w lane
         (cases_Bool (v.reads i))
 
     -- a write that is not refused 21 below
-    pub answered_below : (r : Result (Unit {0}) Refusal) (ws' : List ℕ) (v' : View) (ps' : List (ℕ × ℕ)) →
+    answered_below : (r : Result (Unit {0}) Refusal) (ws' : List ℕ) (v' : View) (ps' : List (ℕ × ℕ)) →
         (r ≡ Err Due → ⊥) → ps' ≡ ps → Write h ws v i w lanes r ws' v' → LayerWrite h ws v ps i w lanes r ws' v' ps'
     answered_below (Ok _) ws' v' ps' other e st = accepted_below ws' v' ps' e st
     answered_below (Err x) ws' v' ps' other e st = absurd (other (ap Err (refusal_below x ws' v' st).4))
@@ -252,7 +254,7 @@ module _ (h : ℕ) (ws : List ℕ) (v : View) (ps : List (ℕ × ℕ)) (i w lane
           (omega (arith, ap length k.2)) (inl k.2) (λ _. k.1)
 
     -- a write that is refused below leaves ws₁ and v₁, which the layer leaves alone
-    pub refused_below : (x : Refusal) (ws₁ : List ℕ) (v₁ : View) → Write h ws v i w lanes (Err x) ws₁ v₁ →
+    refused_below : (x : Refusal) (ws₁ : List ℕ) (v₁ : View) → Write h ws v i w lanes (Err x) ws₁ v₁ →
         (ps₁ : List (ℕ × ℕ)) → ps₁ ≡ ps → (r : Result (Unit {0}) Refusal) (ps' : List (ℕ × ℕ)) →
         (i < length ws₁ → Taken (room_over h) ps₁ (i, merged (get_or ws₁ i 0) w lanes) r ps') →
         LayerWrite h ws v ps i w lanes r ws₁ v₁ ps'
@@ -264,3 +266,61 @@ module _ (h : ℕ) (ws : List ℕ) (v : View) (ps : List (ℕ × ℕ)) (i w lane
         (subst (λ (z : List ℕ). Taken (room_over h) ps₁ (i, merged (get_or z i 0) w lanes) r ps') e.2 at₁) in
         subst (λ (z : List ℕ). LayerWrite h ws v ps i w lanes r z v₁ ps') (sym e.2)
         (subst (λ (u : View). LayerWrite h ws v ps i w lanes r ws u ps') (sym e.3) (taken e.0 e.1 r ps' at))
+
+-- ---- the same of the layer's values, which go from s to s'
+module _ {S : Type 0} (h : ℕ) (words : S → List ℕ) (view : S → View) (added : S → Type 0) (fixed : S → List ℕ)
+    (s : WriteBack S) (i w lanes : ℕ) where
+  abbrev Promised : Result (Unit {0}) Refusal → WriteBack S → Type 0
+  Promised r s' = record {
+    write : AllFacts h view added s → Write (most_over h) (words s.lower) (over view s) i w lanes r (words s'.lower) (over view s');
+    facts : AllFacts h view added s → AllFacts h view added s';
+    home : fixed s'.lower ≡ fixed s.lower;
+    order : AllFacts h view added s → InOrder s.own i s'.own;
+    full : AllFacts h view added s → Refused 21 r → room_over h ≤ length s.own;
+  }
+
+  abbrev Below : S → Type 0
+  Below t = Meant h (view t) (added t)
+
+  all_promised : (r : Result (Unit {0}) Refusal) (s' : WriteBack S) → (Below s.lower → Below s'.lower) → fixed s'.lower ≡ fixed s.lower →
+      (AllFacts h view added s → LayerWrite h (words s.lower) (view s.lower) s.own i w lanes r (words s'.lower) (view s'.lower) s'.own) →
+      Promised r s'
+  all_promised r s' below home all =
+      record {
+        write = λ m. (all m).write;
+        facts = λ m. record { facts = (all m).facts; layer = (below m.layer.0, (all m).room) };
+        home = home;
+        order = λ m. (all m).order;
+        full = λ m. (all m).full;
+      }
+
+  module _ (low : i < length (words s.lower)) (named : (0 < lanes) × (lanes ≤ 15)) where
+    pub own_promised : (ps' : List (ℕ × ℕ)) → (Apart s.own → Changed s.own i w lanes true ps') →
+        Promised (Ok tt) (record { lower = s.lower; own = ps' })
+    own_promised ps' c =
+        all_promised (Ok tt) (record { lower = s.lower; own = ps' }) (λ b. b) refl λ m.
+        changed h (words s.lower) (view s.lower) s.own i w lanes low named.0 named.1 m.layer.0.facts m.facts m.layer.1 ps'
+        (c (apart_right (view s.lower).pairs s.own m.facts.apart))
+
+    -- a write that goes on to the section memory below, which becomes t
+    module _ (ps₁ : List (ℕ × ℕ)) (kept : Apart s.own → Changed s.own i w lanes false ps₁) (t : S)
+        (below : Below s.lower → Below t) (home : fixed t ≡ fixed s.lower) where
+      pub answer_promised : (r : Result (Unit {0}) Refusal) →
+          (Below s.lower → Write h (words s.lower) (view s.lower) i w lanes r (words t) (view t)) → (r ≡ Err Due → ⊥) →
+          Promised r (record { lower = t; own = ps₁ })
+      answer_promised r st other =
+          all_promised r (record { lower = t; own = ps₁ }) below home λ m.
+          let k = kept (apart_right (view s.lower).pairs s.own m.facts.apart) in
+          answered_below h (words s.lower) (view s.lower) s.own i w lanes low named.0 named.1 m.layer.0.facts m.facts m.layer.1 k.0
+          r (words t) (view t) ps₁ other k.1 (st m.layer.0)
+
+      pub refusal_promised : (x : Refusal) →
+          (Below s.lower → Write h (words s.lower) (view s.lower) i w lanes (Err x) (words t) (view t)) →
+          (r : Result (Unit {0}) Refusal) (s' : WriteBack S) → s'.lower ≡ t →
+          (i < length (words t) → Taken (room_over h) ps₁ (i, merged (get_or (words t) i 0) w lanes) r s'.own) → Promised r s'
+      refusal_promised x st r s' same taken =
+          all_promised r s' (λ b. rw same (below b)) (ap fixed same ∙ home) λ m.
+          let k = kept (apart_right (view s.lower).pairs s.own m.facts.apart) in
+          rw same
+          (refused_below h (words s.lower) (view s.lower) s.own i w lanes low named.0 named.1 m.layer.0.facts m.facts m.layer.1 k.0
+          x (words t) (view t) (st m.layer.0) ps₁ k.1 r s'.own taken)
