@@ -1,7 +1,6 @@
 -- What holds of every action that is planned: it is planned below the limit, and stays within the memory and the outputs.
 use Rattle.std.proofs.Common.{◌≡◌, ℕ, ◌+◌, ◌*◌, ◌/◌, ◌%◌, ◌<◌, ◌≤◌, Bool, true, false, not, ◌&&◌, eqb, ltb, leb, Ok, Err, refl, ap, arith}
-use Rattle.std.proofs.lemmas.Bool.{leb-false, ltb-false}
-pub use Rattle.std.proofs.lemmas.Bool.{cond_both as if_both}
+use Rattle.std.proofs.lemmas.Bool.{leb-false, ltb-false, cond_both}
 use Rattle.rv32i.specs.Decode.{Decoded, decode}
 use Rattle.rv32i.specs.declared.instruction.LoadKind.{LoadKind}
 use Rattle.rv32i.specs.declared.instruction.StoreKind.{StoreKind}
@@ -29,25 +28,25 @@ module _ (lim : Limits) (c : Core) (runs : c.ran < lim.instructions) where
   In a = Within lim c a
 
   within_jump : (target r v : ℕ) → In (jump target r v)
-  within_jump target r v = if_both (eqb (target % 4) 0) _ _ In (λ _. runs) (λ _. tt)
+  within_jump target r v = cond_both (eqb (target % 4) 0) _ _ In (λ _. runs) (λ _. tt)
 
   within_load : (pc : ℕ) (k : LoadKind) (r a : ℕ) → In (load lim pc k r a)
   within_load pc k r a =
-      if_both (eqb r 0) _ _ In (λ _. runs) λ _.
-      if_both (not (eqb (a % load_width k) 0)) _ _ In (λ _. tt) λ _.
-      if_both (leb (4 * lim.words) a) _ _ In (λ _. tt) λ e.
+      cond_both (eqb r 0) _ _ In (λ _. runs) λ _.
+      cond_both (not (eqb (a % load_width k) 0)) _ _ In (λ _. tt) λ _.
+      cond_both (leb (4 * lim.words) a) _ _ In (λ _. tt) λ e.
       (runs, omega (arith, leb-false (4 * lim.words) a e))
 
   within_output : (v : ℕ) → In (output lim c.sent v)
   within_output v =
-      if_both (leb lim.outputs c.sent) _ _ In (λ _. tt) (λ e. (runs, leb-false lim.outputs c.sent e))
+      cond_both (leb lim.outputs c.sent) _ _ In (λ _. tt) (λ e. (runs, leb-false lim.outputs c.sent e))
 
   within_store : (k : StoreKind) (v a : ℕ) → In (store lim c.sent k v a)
   within_store k v a =
-      if_both (not (eqb (a % store_width k) 0)) _ _ In (λ _. tt) λ _.
-      if_both (is_word k && eqb a port) _ _ In (λ _. within_output v) λ _.
-      if_both (leb (4 * lim.words) a) _ _ In (λ _. tt) λ e.
-      if_both (ltb a (4 * lim.text)) _ _ In (λ _. tt) λ f.
+      cond_both (not (eqb (a % store_width k) 0)) _ _ In (λ _. tt) λ _.
+      cond_both (is_word k && eqb a port) _ _ In (λ _. within_output v) λ _.
+      cond_both (leb (4 * lim.words) a) _ _ In (λ _. tt) λ e.
+      cond_both (ltb a (4 * lim.text)) _ _ In (λ _. tt) λ f.
       (runs, omega (arith, ltb-false a (4 * lim.text) f), omega (arith, leb-false (4 * lim.words) a e))
 
   within_perform : (h : Hart) (i : Instruction) → In (perform lim h c.sent i)
@@ -56,7 +55,7 @@ module _ (lim : Limits) (c : Core) (runs : c.ran < lim.instructions) where
   within_perform h (Jal r offset) = within_jump (wrap (h.pc + offset)) r (after h.pc)
   within_perform h (Jalr r a offset) = within_jump (wrap (reg h.x a + offset) / 2 * 2) r (after h.pc)
   within_perform h (Branch d a b offset) =
-      if_both (holds d (reg h.x a) (reg h.x b)) _ _ In (λ _. within_jump (wrap (h.pc + offset)) 0 0) (λ _. runs)
+      cond_both (holds d (reg h.x a) (reg h.x b)) _ _ In (λ _. within_jump (wrap (h.pc + offset)) 0 0) (λ _. runs)
   within_perform h (Load k r a offset) = within_load h.pc k r (wrap (reg h.x a + offset))
   within_perform h (Store k a b offset) = within_store k (reg h.x b) (wrap (reg h.x a + offset))
   within_perform h (Op o r a b) = runs
@@ -71,8 +70,8 @@ module _ (lim : Limits) (c : Core) (runs : c.ran < lim.instructions) where
 
 pub within_plan : (lim : Limits) (c : Core) (w : ℕ) → Within lim c (plan lim c w)
 within_plan lim c w =
-    if_both (leb lim.instructions c.ran) _ _ (Within lim c) (λ _. tt) λ e.
-    if_both (leb (4 * lim.text) c.hart.pc) _ _ (Within lim c) (λ _. tt) λ _.
+    cond_both (leb lim.instructions c.ran) _ _ (Within lim c) (λ _. tt) λ e.
+    cond_both (leb (4 * lim.text) c.hart.pc) _ _ (Within lim c) (λ _. tt) λ _.
     within_execute lim c (leb-false lim.instructions c.ran e) c.hart (decode w)
 
 -- the word at pc counts only inside the text

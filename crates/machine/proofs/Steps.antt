@@ -32,23 +32,27 @@ load_goes : (t : Bool) (m : Mem) (h : Hart) (k : LoadKind) (r i b : ℕ) → sto
 load_goes true m h k r i b = refl
 load_goes false m h k r i b = refl
 
-module _ (lim : Limits) (c : Core) (ws log : List ℕ) where
+-- x is the word at pc
+module _ (lim : Limits) (c : Core) (ws log : List ℕ) (x : ℕ) (fetched : x ≡ word ws (c.hart.pc / 4)) where
   abbrev here : State
   here = state_of c ws log
 
   abbrev Planned : Action → Type 0
-  Planned a = a ≡ plan lim c (word ws (c.hart.pc / 4))
+  Planned a = a ≡ plan lim c x
+
+  planned : (a : Action) → Planned a → a ≡ plan lim c (word ws (c.hart.pc / 4))
+  planned a p = p ∙ ap (plan lim c) fetched
 
   does : (a : Action) → Planned a → doing (rv32i lim) here ≡ effect lim (word ws) c.hart a
   unfolding rv32i
-  does a p = ap (effect lim (word ws) c.hart) (sym p)
+  does a p = ap (effect lim (word ws) c.hart) (sym (planned a p))
 
   steps : (a : Action) → Planned a → step (rv32i lim) here ≡ enact here (effect lim (word ws) c.hart a)
   unfolding step
   steps a p = ap (enact here) (does a p)
 
   within : (a : Action) → Planned a → Within lim c a
-  within a p = subst (Within lim c) (sym p) (within_plan lim c (word ws (c.hart.pc / 4)))
+  within a p = subst (Within lim c) (sym (planned a p)) (within_plan lim c (word ws (c.hart.pc / 4)))
 
   pub halts : (z : Stop) → Planned (Halt z) → Advanced lim c ws log c ws log (Some z)
   halts z p = record {
@@ -69,30 +73,30 @@ module _ (lim : Limits) (c : Core) (ws log : List ℕ) where
           log_size = refl;
         }
 
-    pub loads : (k : LoadKind) (r i b : ℕ) → Planned (Load k r i b) → c' ≡ retired_load c k r b (word ws i) → Advanced lim c ws log c' ws log None
-    loads k r i b p e =
+    pub loads : (k : LoadKind) (r i b w : ℕ) → Planned (Load k r i b) → w ≡ word ws i → c' ≡ retired_load c k r b w → Advanced lim c ws log c' ws log None
+    loads k r i b w p l e =
         let n = counts c.ran (room (within (Load k r i b) p).0) in
         record {
-          state = ap (λ d. state_of d ws log) (e ∙ ap (λ j. record { hart = loaded_into c.hart k r b (word ws i); sent = c.sent; ran = j }) n)
+          state = ap (λ d. state_of d ws log) (e ∙ ap (retired_load c k r b) l ∙ ap (λ j. record { hart = loaded_into c.hart k r b (word ws i); sent = c.sent; ran = j }) n)
               ∙ sym (steps (Load k r i b) p ∙ load_enacted (ltb i lim.text) here c.hart k r i b);
           answer = sym (ap stop_number (does (Load k r i b) p) ∙ load_goes (ltb i lim.text) (word ws) c.hart k r i b);
           words_size = refl;
           log_size = refl;
         }
 
-    pub stores : (fits : Fits lim ws log) (i w lanes : ℕ) (ws' : List ℕ) → Planned (Store i w lanes)
-        → ws' ≡ set ws i (merged (word ws i) w lanes) → c' ≡ retired c (hart.after c.hart.pc) 0 0 → Advanced lim c ws log c' ws' log None
-    stores fits i w lanes ws' p f e =
+    pub stores : (fits : Fits lim ws log) (i w lanes old new : ℕ) (ws' : List ℕ) → Planned (Store i w lanes) → old ≡ word ws i → new ≡ merged old w lanes
+        → ws' ≡ set ws i new → c' ≡ retired c (hart.after c.hart.pc) 0 0 → Advanced lim c ws log c' ws' log None
+    stores fits i w lanes old new ws' p l k f e =
         let h = within (Store i w lanes) p in
         let n = counts c.ran (room h.0) in
-        let v = merged (word ws i) w lanes in
-        let m : word ws' ≡ put (word ws) i v = ap word f ∙ word_set ws i v (omega arith) in
+        let v : new ≡ merged (word ws i) w lanes = k ∙ ap (λ (z : ℕ). merged z w lanes) l in
+        let m : word ws' ≡ put (word ws) i (merged (word ws i) w lanes) = ap word f ∙ word_set ws i new (omega arith) ∙ ap (put (word ws) i) v in
         record {
           state = ap (λ d. state_of d ws' log) (e ∙ ap (λ j. record { hart = onward c.hart; sent = c.sent; ran = j }) n)
               ∙ ap (λ (q : Mem). record { core = next c (onward c.hart); mem = q; log = word log }) m
               ∙ sym (steps (Store i w lanes) p);
           answer = sym (ap stop_number (does (Store i w lanes) p));
-          words_size = ap length f ∙ length-set ws i v;
+          words_size = ap length f ∙ length-set ws i new;
           log_size = refl;
         }
 

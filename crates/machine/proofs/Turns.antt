@@ -1,5 +1,5 @@
 -- The turns of the loop that steps a machine to its end.
-use Rattle.std.proofs.Common.{◌≡◌, ℕ, ◌-◌, ◌<◌, List, length, Some, None, Option, sym, ap, ◌∙◌, ⊎_elim, arith}
+use Rattle.std.proofs.Common.{◌≡◌, ℕ, ◌-◌, ◌<◌, ◌≤◌, List, length, Some, None, Option, sym, ap, ◌∙◌, subst, ⊎_elim, arith}
 use Rattle.hart.specs.Stops.{number}
 use Rattle.hart.specs.declared.state.Core.{Core}
 use Rattle.hart.specs.declared.action.Stop.{Stop}
@@ -7,7 +7,7 @@ use Rattle.hart.specs.declared.action.Limits.{Limits}
 use Rattle.machine.specs.Processor.{stop, stop_number, State, doing, step}
 use Rattle.machine.specs.Rv32i.{rv32i}
 use Rattle.machine.specs.Run.{ended}
-use Rattle.machine.specs.Calls.{state_of, Advanced, Finished}
+use Rattle.machine.specs.Calls.{state_of, Fits, Advanced, Finished}
 use Rattle.machine.proofs.Ends.{goes, stays, ran_on, ended_step, ended_here, stop_told, number_bounds}
 
 module _ (lim : Limits) (c : Core) (ws log : List ℕ) (c' : Core) (ws' log' : List ℕ) where
@@ -39,9 +39,34 @@ module _ (lim : Limits) (c : Core) (ws log : List ℕ) (c' : Core) (ws' log' : L
         log_size = a.log_size;
       }
 
--- a run from a later state of another is that run
-pub finished_from : (lim : Limits) (c : Core) (ws log : List ℕ) (c' : Core) (ws' log' : List ℕ) (c'' : Core) (ws'' log'' : List ℕ) (z : Stop)
-    → ended lim (state_of c' ws' log') ≡ ended lim (state_of c ws log) → length ws' ≡ length ws → length log' ≡ length log
-    → Finished lim c' ws' log' c'' ws'' log'' z → Finished lim c ws log c'' ws'' log'' z
-finished_from lim c ws log c' ws' log' c'' ws'' log'' z e m l f =
-    record { state = f.state ∙ e; answer = f.answer; words_size = f.words_size ∙ m; log_size = f.log_size ∙ l }
+-- a loop that began with lim, c, ws and log has come to the others: the run from here ends as it does from the loop's start
+pub record Running (lim : Limits) (c : Core) (ws log : List ℕ) (lim' : Limits) (c' : Core) (ws' log' : List ℕ) : Type 0 where
+  pub limits : lim' ≡ lim
+  pub fits : Fits lim' ws' log'
+  pub few : length log' ≤ 16384
+  pub ends : ended lim (state_of c' ws' log') ≡ ended lim (state_of c ws log)
+  pub words_size : length ws' ≡ length ws
+  pub log_size : length log' ≡ length log
+
+module _ (lim : Limits) (c : Core) (ws log : List ℕ) (lim' : Limits) (c' : Core) (ws' log' : List ℕ) (r : Running lim c ws log lim' c' ws' log')
+    (c'' : Core) (ws'' log'' : List ℕ) where
+  -- one turn more
+  pub goes_on : (lim'' : Limits) → lim'' ≡ lim' → Advanced lim' c' ws' log' c'' ws'' log'' None → Running lim c ws log lim'' c'' ws'' log''
+  goes_on lim'' e a =
+      let same : ended lim (state_of c'' ws'' log'') ≡ ended lim (state_of c' ws' log') =
+      subst (λ (l : Limits). ended l (state_of c'' ws'' log'') ≡ ended l (state_of c' ws' log')) r.limits (ends_alike lim' c' ws' log' c'' ws'' log'' None a) in
+      record {
+        limits = e ∙ r.limits;
+        fits = (omega (arith, ap (λ (l : Limits). l.words) e, r.fits.0, a.words_size), omega (arith, ap (λ (l : Limits). l.outputs) e, r.fits.1, a.log_size));
+        few = omega (arith, a.log_size, r.few);
+        ends = same ∙ r.ends;
+        words_size = a.words_size ∙ r.words_size;
+        log_size = a.log_size ∙ r.log_size;
+      }
+
+  -- the last turn
+  pub finishes : (z : Stop) → Advanced lim' c' ws' log' c'' ws'' log'' (Some z) → Finished lim c ws log c'' ws'' log'' z
+  finishes z a =
+      let f : Finished lim c' ws' log' c'' ws'' log'' z =
+      subst (λ (l : Limits). Finished l c' ws' log' c'' ws'' log'' z) r.limits (stops_there lim' c' ws' log' c'' ws'' log'' z a) in
+      record { state = f.state ∙ r.ends; answer = f.answer; words_size = f.words_size ∙ r.words_size; log_size = f.log_size ∙ r.log_size }
