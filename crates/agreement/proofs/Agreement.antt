@@ -3,7 +3,7 @@ use Rattle.std.proofs.Common.{◌≡◌, ℕ, zero, suc, ◌+◌, ◌<◌, ◌�
 use mathlib.Core.Bool.{or-false, or_assoc}
 use Rattle.std.proofs.lemmas.Bool.{ltb-true, leb-true, or_left, cond-true, cond-false, false≢true}
 use Rattle.std.proofs.lemmas.List.Prefix.{front_from_reads}
-use Rattle.memory.proofs.Contents.{length_words, words_read}
+use Rattle.std.proofs.lemmas.List.FromFn.{length-map-range_with_len, get_or-map-range_with_len}
 use Rattle.section.specs.View.{View, fresh}
 use Rattle.image.specs.Image.{header}
 use Rattle.image.specs.Accepted.{Accepted}
@@ -88,7 +88,7 @@ module _ (kind : Kind) (bs : List ℕ) (image : Accepted bs) where
   final k m t used ran d fin e f =
       record {
         sealed = ap (λ c. c.ran) f.core;
-        outputs = ap (λ c. c.sent) f.core ∙ sym (length_words end.log 0 end.core.sent);
+        outputs = ap (λ c. c.sent) f.core ∙ sym (length-map-range_with_len end.log 0 end.core.sent);
         stop = cond-true fin (current b k.store).halt 0 e ∙ f.number;
       }
 
@@ -274,29 +274,29 @@ module _ (kind : Kind) (bs : List ℕ) (image : Accepted bs) where
           _,
           front_from_reads 0 (run_outputs bs) (taken p.0) (rw outs (let n = w.count in let l = w.fine.few in omega arith))
               (λ j q. let n = w.count in let l = w.fine.few in
-              words_read end.log 0 end.core.sent j j (omega arith) (omega arith) ∙ ap end.log (let e : j ≡ r.taken + j = omega (arith, none) in e) ∙ sym (w.words j q)),
+              get_or-map-range_with_len end.log 0 end.core.sent j j 0 (omega arith) (omega arith) ∙ ap end.log (let e : j ≡ r.taken + j = omega (arith, none) in e) ∙ sym (w.words j q)),
         );
         answers = subst (λ d. AllRight kind bs d p.0) opened w.right;
         words = λ e. let g = w.fine.ends (done e) in let l = w.fine.sound.stands.long.words in (
           _,
           front_from_reads 0 p.1.bank.words (run_words bs) (rw size l)
               (λ j q. let q' : j < h.words = subst (λ n. j < n) size q in
-              g.words j q' ∙ sym (words_read end.mem 0 h.words j j q' (omega arith))),
+              g.words j q' ∙ sym (get_or-map-range_with_len end.mem 0 h.words j j 0 q' (omega arith))),
         );
         log = λ e. let g = w.fine.ends (done e) in let l = w.fine.sound.stands.long.log in (
           _,
           front_from_reads 0 p.1.bank.log (run_outputs bs) (rw outs (sent g))
               (λ j q. let q' : j < end.core.sent = subst (λ n. j < n) outs q in
-              g.outputs j q' ∙ sym (words_read end.log 0 end.core.sent j j q' (omega arith))),
+              g.outputs j q' ∙ sym (get_or-map-range_with_len end.log 0 end.core.sent j j 0 q' (omega arith))),
         );
         suffices = λ n. sym done_is ∙ enough n w.onward;
       }
     where
       outs : length (run_outputs bs) ≡ end.core.sent
-      outs = length_words end.log 0 end.core.sent
+      outs = length-map-range_with_len end.log 0 end.core.sent
 
       size : length (run_words bs) ≡ h.words
-      size = length_words end.mem 0 h.words
+      size = length-map-range_with_len end.mem 0 h.words
 
       done_is : p.1.done ≡ finished p.0
       done_is = w.done ∙ ap (λ d. d || finished p.0) opened

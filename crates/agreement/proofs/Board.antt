@@ -1,6 +1,6 @@
 -- RV32I on an image keeps what the law asks of a board.
 use Rattle.std.proofs.Common.{◌≡◌, ℕ, ◌+◌, ◌-◌, ◌*◌, ◌/◌, ◌%◌, ◌<◌, ◌≤◌, Bool, true, false, cond, not, ◌&&◌, eqb, ltb, leb, List, length, Ok, Err, refl, ap, ◌∙◌, arith, length-set}
-use Rattle.std.proofs.lemmas.Bool.{and_parts, and_from, eqb-true, eqb-false, eq-eqb, leb-true, leb-false, le-leb, ltb-true, ltb-false}
+use Rattle.std.proofs.lemmas.Bool.{cond_both, and_parts, and_from, eqb-true, eqb-false, eq-eqb, leb-true, leb-false, le-leb, ltb-true, ltb-false}
 use Rattle.memory.specs.Contents.{Mem}
 use Rattle.rv32i.specs.Decode.{Decoded, decode}
 use Rattle.rv32i.specs.declared.instruction.LoadKind.{LoadKind}
@@ -16,7 +16,7 @@ use Rattle.hart.specs.declared.state.Core.{Core}
 use Rattle.hart.specs.declared.action.Action.{Action}
 use Rattle.hart.specs.declared.action.Action.TheVariants as action
 use Rattle.hart.specs.declared.action.Limits.{Limits}
-use Rattle.hart.proofs.Plans.{if_both, Within, within_plan, plan_alike}
+use Rattle.hart.proofs.Plans.{Within, within_plan, plan_alike}
 use Rattle.image.specs.declared.header.Header.{Header}
 use Rattle.machine.specs.Rv32i.{loading, effect, rv32i}
 use Rattle.machine.specs.Run.{limits_of}
@@ -37,20 +37,20 @@ module _ (lim : Limits) (sent pc : ℕ) (even : pc % 4 ≡ 0) where
   on = omega arith
 
   aligned_jump : (target r v : ℕ) → Aligned (jump target r v)
-  aligned_jump target r v = if_both (eqb (target % 4) 0) _ _ Aligned (λ e. eqb-true _ _ e) (λ _. tt)
+  aligned_jump target r v = cond_both (eqb (target % 4) 0) _ _ Aligned (λ e. eqb-true _ _ e) (λ _. tt)
 
   aligned_load : (k : LoadKind) (r a : ℕ) → Aligned (load lim pc k r a)
   aligned_load k r a =
-      if_both (eqb r 0) _ _ Aligned (λ _. on) λ _.
-      if_both (not (eqb (a % load_width k) 0)) _ _ Aligned (λ _. tt) λ _.
-      if_both (leb (4 * lim.words) a) _ _ Aligned (λ _. tt) λ _. tt
+      cond_both (eqb r 0) _ _ Aligned (λ _. on) λ _.
+      cond_both (not (eqb (a % load_width k) 0)) _ _ Aligned (λ _. tt) λ _.
+      cond_both (leb (4 * lim.words) a) _ _ Aligned (λ _. tt) λ _. tt
 
   aligned_store : (k : StoreKind) (v a : ℕ) → Aligned (store lim sent k v a)
   aligned_store k v a =
-      if_both (not (eqb (a % store_width k) 0)) _ _ Aligned (λ _. tt) λ _.
-      if_both (is_word k && eqb a port) _ _ Aligned (λ _. if_both (leb lim.outputs sent) _ _ Aligned (λ _. tt) (λ _. tt)) λ _.
-      if_both (leb (4 * lim.words) a) _ _ Aligned (λ _. tt) λ _.
-      if_both (ltb a (4 * lim.text)) _ _ Aligned (λ _. tt) λ _. tt
+      cond_both (not (eqb (a % store_width k) 0)) _ _ Aligned (λ _. tt) λ _.
+      cond_both (is_word k && eqb a port) _ _ Aligned (λ _. cond_both (leb lim.outputs sent) _ _ Aligned (λ _. tt) (λ _. tt)) λ _.
+      cond_both (leb (4 * lim.words) a) _ _ Aligned (λ _. tt) λ _.
+      cond_both (ltb a (4 * lim.text)) _ _ Aligned (λ _. tt) λ _. tt
 
 aligned_perform : (lim : Limits) (h : Hart) (sent : ℕ) → h.pc % 4 ≡ 0 → (i : Instruction) → Aligned (perform lim h sent i)
 aligned_perform lim h sent e (Lui r imm) = on lim sent h.pc e
@@ -58,7 +58,7 @@ aligned_perform lim h sent e (Auipc r imm) = on lim sent h.pc e
 aligned_perform lim h sent e (Jal r offset) = aligned_jump lim sent h.pc e (wrap (h.pc + offset)) r (after h.pc)
 aligned_perform lim h sent e (Jalr r a offset) = aligned_jump lim sent h.pc e (wrap (reg h.x a + offset) / 2 * 2) r (after h.pc)
 aligned_perform lim h sent e (Branch c a b offset) =
-    if_both (holds c (reg h.x a) (reg h.x b)) _ _ Aligned (λ _. aligned_jump lim sent h.pc e (wrap (h.pc + offset)) 0 0) (λ _. on lim sent h.pc e)
+    cond_both (holds c (reg h.x a) (reg h.x b)) _ _ Aligned (λ _. aligned_jump lim sent h.pc e (wrap (h.pc + offset)) 0 0) (λ _. on lim sent h.pc e)
 aligned_perform lim h sent e (Load k r a offset) = aligned_load lim sent h.pc e k r (wrap (reg h.x a + offset))
 aligned_perform lim h sent e (Store k a b offset) = aligned_store lim sent h.pc e k (reg h.x b) (wrap (reg h.x a + offset))
 aligned_perform lim h sent e (Op o r a b) = on lim sent h.pc e
@@ -73,8 +73,8 @@ aligned_execute lim h sent e (Ok i) = aligned_perform lim h sent e i
 
 aligned_plan : (lim : Limits) (c : Core) (w : ℕ) → c.hart.pc % 4 ≡ 0 → Aligned (plan lim c w)
 aligned_plan lim c w e =
-    if_both (leb lim.instructions c.ran) _ _ Aligned (λ _. tt) λ _.
-    if_both (leb (4 * lim.text) c.hart.pc) _ _ Aligned (λ _. tt) λ _.
+    cond_both (leb lim.instructions c.ran) _ _ Aligned (λ _. tt) λ _.
+    cond_both (leb (4 * lim.text) c.hart.pc) _ _ Aligned (λ _. tt) λ _.
     aligned_execute lim c.hart c.sent e (decode w)
 
 -- ---- a stop's number, and where accesses and outputs go
@@ -92,7 +92,7 @@ lawful_effect lim c m (action.Output x) w = w.1
 
 -- ---- a checkpoint's core
 same_length : (xs : List ℕ) (r v : ℕ) → length (with_reg xs r v) ≡ length xs
-same_length xs r v = if_both (eqb r 0) _ _ (λ (ys : List ℕ). length ys ≡ length xs) (λ _. refl) (λ _. length-set xs (r - 1) v)
+same_length xs r v = cond_both (eqb r 0) _ _ (λ (ys : List ℕ). length ys ≡ length xs) (λ _. refl) (λ _. length-set xs (r - 1) v)
 
 module _ (h : Header) where
   abbrev lim : Limits

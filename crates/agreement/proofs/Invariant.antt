@@ -1,5 +1,5 @@
 -- The invariant of an intermittent run, kept by every tick and every cut.
-use Rattle.std.proofs.Common.{◌≡◌, ℕ, zero, suc, ◌+◌, ◌<◌, Bool, true, false, not, ◌&&◌, ◌||◌, eqb, ltb, leb, ◌⊎◌, List, length, get_or, drop, is_some, None, sym, refl, ap, ◌∙◌, subst, inl, inr, le_refl, arith}
+use Rattle.std.proofs.Common.{◌≡◌, ℕ, zero, suc, ◌+◌, ◌<◌, Bool, true, false, not, ◌&&◌, ◌||◌, eqb, ltb, leb, ◌⊎◌, List, length, get_or, drop, is_some, sym, refl, ap, ◌∙◌, subst, inl, inr, le_refl, arith}
 use Rattle.std.proofs.lemmas.List.{drop_more, drop_all}
 use Rattle.std.proofs.lemmas.Bool.{eqb-true, and_parts, ltb-true, ltb-false, false≢true}
 use Rattle.memory.specs.Lanes.{merged}
@@ -7,7 +7,8 @@ use Rattle.memory.specs.Contents.{put}
 use Rattle.memory.proofs.Contents.{put_other}
 use Rattle.section.specs.View.{Apart}
 use Rattle.section.specs.Calls.{known}
-use Rattle.section.proofs.Pairs.{some_none, held_at}
+use Rattle.std.proofs.lemmas.Option.{none-some}
+use Rattle.section.proofs.Pairs.{held_at}
 use Rattle.hart.specs.State.{next}
 use Rattle.hart.specs.declared.state.Hart.{Hart}
 use Rattle.machine.specs.Processor.{Effect, stop, quiet, load, store, emit, State, doing, step}
@@ -66,7 +67,7 @@ module _ (b : Board) (end : State) (z : ℕ) (stops : doing b.act end ≡ stop z
                 stood = st;
                 back = λ i k _ x. x;
                 wrote = λ i k f. absurd (false≢true f);
-                held = λ i w f. absurd (some_none None w f refl);
+                held = λ i w f. absurd (none-some w f);
                 apart = tt;
                 above = λ i f. absurd (false≢true f);
                 log = c.log;

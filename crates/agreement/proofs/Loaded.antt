@@ -6,9 +6,9 @@ use Rattle.std.proofs.lemmas.List.{get_or_append_left, get_or_past}
 use Rattle.memory.specs.Contents.{Mem}
 use Rattle.memory.specs.Contents as contents
 use Rattle.memory.specs.Lanes.{byte}
-use Rattle.memory.proofs.Contents.{length_words, words_read}
+use Rattle.std.proofs.lemmas.List.FromFn.{length-map-range_with_len, get_or-map-range_with_len}
 use Rattle.section.specs.View.{View, Apart}
-use Rattle.section.proofs.Pairs.{some_none}
+use Rattle.std.proofs.lemmas.Option.{none-some}
 use Rattle.image.specs.Questions.{Question, first_no, AllYes}
 use Rattle.image.specs.Image.{header, given_words, image_questions, refusal}
 use Rattle.image.specs.Accepted.{Accepted}
@@ -103,7 +103,7 @@ module _ (kind : Kind) (bs : List ℕ) (k : Bank) (f : Fit kind bs k) where
   first_slot = record { core = started hd.entry; halt = 0; pairs = [] }
 
   size_first : length (first_words bs) ≡ hd.words
-  size_first = length_words (contents.word (given_words bs)) 0 hd.words
+  size_first = length-map-range_with_len (contents.word (given_words bs)) 0 hd.words
 
   pub slot_left : current b left.store ≡ first_slot
   unfolding slot_start
@@ -121,7 +121,7 @@ module _ (kind : Kind) (bs : List ℕ) (k : Bank) (f : Fit kind bs k) where
       go i (inl l) =
           inner_at hd.words left.words i l
           ∙ get_or_append_left (first_words bs) (drop (length (first_words bs)) k.words) 0 i (rw size_first l)
-          ∙ words_read (contents.word (given_words bs)) 0 hd.words i i l (omega arith)
+          ∙ get_or-map-range_with_len (contents.word (given_words bs)) 0 hd.words i i 0 l (omega arith)
       go i (inr l) =
           cond-false (ltb i hd.words) (get_or left.words i 0) 0 (le-ltb i hd.words l)
           ∙ sym (get_or_past (given_words bs) i 0 (let g = f.image.given_high in let e = given_length bs in omega arith))
@@ -141,7 +141,7 @@ module _ (kind : Kind) (bs : List ℕ) (k : Bank) (f : Fit kind bs k) where
               sent = zero-le;
               halt = zero-le;
               few = zero-le;
-              between = λ i w e. absurd (some_none None w e refl);
+              between = λ i w e. absurd (none-some w e);
             });
       }
 

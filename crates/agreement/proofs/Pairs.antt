@@ -4,9 +4,10 @@ use Rattle.std.proofs.lemmas.Bool.{eqb-true, eqb-false, eq-eqb, ne_eqb, cases_eq
 use Rattle.memory.specs.Contents.{Mem, put}
 use Rattle.memory.proofs.Contents.{put_same, put_other}
 use Rattle.index_sets.specs.Sets.{IndexTest}
+use Rattle.std.proofs.lemmas.Option.{none-some}
 use Rattle.std.specs.Option.{unwrap_or}
 use Rattle.section.specs.View.{held, replaced, Apart}
-use Rattle.section.proofs.Pairs.{some_none, cases_option, held_head, held_tail, Holds, push_holds, push_apart, replaced_holds, replaced_apart, replaced_length}
+use Rattle.section.proofs.Pairs.{cases_option, held_head, held_tail, Holds, push_holds, push_apart, replaced_holds, replaced_apart, replaced_length}
 use Rattle.agreement.specs.Pairs.{Pair, seen_over, is_held, apart, between, hold, is_word, all_held, arranged, some_below, inhabited}
 
 -- ---- tests and what they say
@@ -71,7 +72,7 @@ module _ (m : Mem) (i w : ℕ) (ps : List Pair) (j : ℕ) where
       free : held ps j ≡ None → seen_over (put m i w) ps j ≡ seen_over m ps j
       free n =
           ap (unwrap_or (held ps j))
-          (put_other m i w j (λ e. let s = some_held ps i h in some_none (held ps i) s.0 s.1 (ap (held ps) (sym e) ∙ n)))
+          (put_other m i w j (λ e. let s = some_held ps i h in none-some s.0 (sym n ∙ ap (held ps) e ∙ s.1)))
 
   pub seen_under : held ps i ≡ None → seen_over (put m i w) ps j ≡ put (seen_over m ps) i w j
   seen_under n =
@@ -127,7 +128,7 @@ module _ (i w : ℕ) (ps : List Pair) where
 
 -- ---- any order that a section memory may give
 all_from : (ps qs : List Pair) → all_held ps qs ≡ true → (k w : ℕ) → held ps k ≡ Some w → held qs k ≡ Some w
-all_from [] qs h k w e = absurd (some_none None w e refl)
+all_from [] qs h k w e = absurd (none-some w e)
 all_from (p ∷ ps) qs h k w e =
     let x = and_parts (is_word (held qs p.0) p.1) (all_held ps qs) h in
     ⊎_elim
@@ -142,7 +143,7 @@ all_test (p ∷ ps) qs a h =
     and_from (is_word (held qs p.0) p.1) (all_held ps qs)
     (held_word (held qs p.0) p.1 (h p.0 p.1 (held_head p ps p.0 refl)))
     (all_test ps qs a.1 λ k w e.
-    h k w (held_tail p ps k (λ (q : k ≡ p.0). some_none (held ps k) w e (ap (held ps) q ∙ a.0)) ∙ e))
+    h k w (held_tail p ps k (λ (q : k ≡ p.0). none-some w (sym a.0 ∙ ap (held ps) (sym q) ∙ e)) ∙ e))
 
 -- pairs that stand in for ps: they hold the same words, differ, and are few
 pub record Legal (H : ℕ) (given ps : List Pair) : Type 0 where
@@ -162,7 +163,7 @@ legal_from H given ps h =
       same = λ i.
           ⊎_elim
           (λ n. n ∙ sym (⊎_elim (λ e. e)
-          (λ (s : (w : ℕ) × (held ps i ≡ Some w)). absurd (some_none (held given i) s.0 (all_from ps given y.1 i s.0 s.1) n))
+          (λ (s : (w : ℕ) × (held ps i ≡ Some w)). absurd (none-some s.0 (sym n ∙ all_from ps given y.1 i s.0 s.1)))
           (cases_option (held ps i))))
           (λ (s : (w : ℕ) × (held given i ≡ Some w)). s.1 ∙ sym (all_from given ps y.0 i s.0 s.1))
           (cases_option (held given i));

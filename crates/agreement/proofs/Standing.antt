@@ -1,5 +1,5 @@
 -- The memories as lists do what the device as functions does, and the store stays in order.
-use Rattle.std.proofs.Common.{◌≡◌, ℕ, zero, suc, ◌+◌, ◌*◌, ◌<◌, ◌≤◌, Bool, true, false, cond, not, ◌&&◌, ◌||◌, eqb, ltb, leb, ◌⊎◌, List, length, get_or, set, None, sym, refl, ap, ◌∙◌, subst, inl, inr, ⊎_elim, zero-le, arith, length-set}
+use Rattle.std.proofs.Common.{◌≡◌, ℕ, zero, suc, ◌+◌, ◌*◌, ◌<◌, ◌≤◌, Bool, true, false, cond, not, ◌&&◌, ◌||◌, eqb, ltb, leb, ◌⊎◌, List, length, get_or, set, sym, refl, ap, ◌∙◌, subst, inl, inr, ⊎_elim, zero-le, arith, length-set}
 use mathlib.Core.Path.{fun_ext}
 use Rattle.std.proofs.lemmas.Bool.{cases_eq, cond-true, lt-ltb, ltb-true, ltb-false, or_parts, not-false, and_from, le-leb, leb-true}
 use Rattle.std.proofs.lemmas.List.{get_or-set_same, get_or-set_other}
@@ -9,7 +9,8 @@ use Rattle.memory.proofs.Contents.{put_same, put_other, word_set}
 use Rattle.std.specs.Option.{unwrap_or}
 use Rattle.section.specs.View.{held, Apart}
 use Rattle.section.specs.Calls.{known}
-use Rattle.section.proofs.Pairs.{some_none, held_at}
+use Rattle.std.proofs.lemmas.Option.{none-some}
+use Rattle.section.proofs.Pairs.{held_at}
 use Rattle.hart.specs.State.{next}
 use Rattle.hart.specs.declared.state.Core.{Core}
 use Rattle.machine.specs.Processor.{Effect, stop, quiet, load, store, emit}
@@ -242,7 +243,7 @@ module _ (b : Board) where
   settling_ready due j k v = go (ltb j (length (current b k.store).pairs)) refl
     where
       begins : (h : ℕ) → Ready k (begun due h (current b k.store).core)
-      begins zero = record { sane = v.sane; sent = v.sent; few = zero-le; between = λ i w e. absurd (some_none None w e refl) }
+      begins zero = record { sane = v.sane; sent = v.sent; few = zero-le; between = λ i w e. absurd (none-some w e) }
       begins (suc z) = tt
 
       go : (x : Bool) → ltb j (length (current b k.store).pairs) ≡ x → Ready k (settling_on x due j (sealed (current b k.store)))

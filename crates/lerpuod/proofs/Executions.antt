@@ -1,7 +1,7 @@
 -- An image's outcome, from what the machine leaves in the program's memories.
 use Rattle.std.proofs.Common.{◌≡◌, ℕ, List, ◌++◌, length, take, drop, Option, sym, ap, ◌∙◌, arith, length-take-le, take_all}
 use lib.Seq.{take-append_seam}
-use Rattle.memory.proofs.Contents.{length_words}
+use Rattle.std.proofs.lemmas.List.FromFn.{length-map-range_with_len}
 use Rattle.image.specs.Questions.{No}
 use Rattle.hart.specs.declared.state.Core.{Core}
 use Rattle.machine.specs.Run.{run_end, run_outputs}
@@ -28,7 +28,7 @@ sent : (bs log log' : List ℕ) (c : Core) → c ≡ (run_end bs).core → lengt
     → take 16384 log' ≡ run_outputs bs ++ drop (run_end bs).core.sent log → take c.sent log' ≡ run_outputs bs
 sent bs log log' c e h o =
     let rest = drop (run_end bs).core.sent log in
-    let many : c.sent ≡ length (run_outputs bs) = ap (λ (x : Core). x.sent) e ∙ sym (length_words (run_end bs).log 0 (run_end bs).core.sent) in
+    let many : c.sent ≡ length (run_outputs bs) = ap (λ (x : Core). x.sent) e ∙ sym (length-map-range_with_len (run_end bs).log 0 (run_end bs).core.sent) in
     ap (take c.sent) (sym (first log' h) ∙ o)
     ∙ ap (λ (n : ℕ). take n (run_outputs bs ++ rest)) many
     ∙ take-append_seam (run_outputs bs) rest
