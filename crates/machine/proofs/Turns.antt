@@ -1,5 +1,5 @@
 -- The turns of the loop that steps a machine to its end.
-use Rattle.std.proofs.Common.{◌≡◌, ℕ, ◌-◌, ◌<◌, ◌≤◌, List, length, Some, None, Option, sym, ap, ◌∙◌, subst, ⊎_elim, arith}
+use Rattle.std.proofs.Common.{◌≡◌, ℕ, ◌-◌, ◌<◌, List, length, Some, None, Option, sym, ap, ◌∙◌, subst, ⊎_elim, arith}
 use Rattle.hart.specs.Stops.{number}
 use Rattle.hart.specs.declared.state.Core.{Core}
 use Rattle.hart.specs.declared.action.Stop.{Stop}
@@ -43,7 +43,6 @@ module _ (lim : Limits) (c : Core) (ws log : List ℕ) (c' : Core) (ws' log' : L
 pub record Running (lim : Limits) (c : Core) (ws log : List ℕ) (lim' : Limits) (c' : Core) (ws' log' : List ℕ) : Type 0 where
   pub limits : lim' ≡ lim
   pub fits : Fits lim' ws' log'
-  pub few : length log' ≤ 16384
   pub ends : ended lim (state_of c' ws' log') ≡ ended lim (state_of c ws log)
   pub words_size : length ws' ≡ length ws
   pub log_size : length log' ≡ length log
@@ -58,7 +57,6 @@ module _ (lim : Limits) (c : Core) (ws log : List ℕ) (lim' : Limits) (c' : Cor
       record {
         limits = e ∙ r.limits;
         fits = (omega (arith, ap (λ (l : Limits). l.words) e, r.fits.0, a.words_size), omega (arith, ap (λ (l : Limits). l.outputs) e, r.fits.1, a.log_size));
-        few = omega (arith, a.log_size, r.few);
         ends = same ∙ r.ends;
         words_size = a.words_size ∙ r.words_size;
         log_size = a.log_size ∙ r.log_size;

@@ -1,5 +1,7 @@
 -- The words of a row of bytes.
 use Rattle.std.specs.Prelude.{◌≡◌, ℕ, ◌+◌, ◌*◌, ◌/◌, ◌<◌, ◌≤◌, min, List, length, drop, Some, None, Option, slice_index}
+use Rattle.std.proofs.Common.{arith}
+use Rattle.std.proofs.lemmas.List.FromFn.{length-map-range_with_len}
 use Rattle.memory.specs.Contents.{words_from}
 
 -- word i of a row of bytes, least significant byte first
@@ -14,6 +16,10 @@ packed_size bs = min 16384 (length bs / 4)
 -- the words of a row of bytes
 abbrev pub packed : List ℕ → List ℕ
 packed bs = words_from (word_at bs) 0 (packed_size bs)
+
+-- they are few
+pub packed_few : (bs : List ℕ) → length (packed bs) ≤ 16384
+packed_few bs = omega (arith, length-map-range_with_len (word_at bs) 0 (packed_size bs))
 
 -- the bytes after the last word in use
 abbrev pub beside : List ℕ → List ℕ

@@ -30,6 +30,8 @@ impl<'a, C: Cell> Memory for Bank<'a, C> {
 
     ghost fixed = { λ s. s.cells.ghost_name ∷ C.beside s.cells.now };
 
+    ghost few = { λ s. C.few s.cells.now };
+
     fn size(&self) -> usize {
         C::count(self.cells)
     }
@@ -39,7 +41,7 @@ impl<'a, C: Cell> Memory for Bank<'a, C> {
     }
 
     fn put(&mut self, index: usize, word: u32) -> Result<(), Refusal> {
-        C::set(self.cells, index, word).ok_or(Refusal::OutOfRange)
+        C::set(self.cells, index, word)
     }
 }
 

@@ -1,9 +1,10 @@
 // The cells of a row that holds words: whole words, or bytes.
-ghost use Rattle.std.specs.Prelude.{◌≡◌, ◌↔◌, ℕ, ◌<◌, ◌≤◌, List, length, take, drop, IsSome, slice_get, slice_set};
-ghost use Rattle.memory.specs.Bytes.{packed, beside as bytes_beside};
+ghost use Rattle.std.specs.Prelude.{◌≡◌, ℕ, ◌≤◌, List, length, take, drop, slice_get};
+ghost use Rattle.memory.specs.Bytes.{packed, packed_few, beside as bytes_beside};
+ghost use Rattle.memory.specs.Words.{front_few, Put};
 
-use crate::MOST_WORDS;
 use crate::bytes::word_at;
+use crate::{MOST_WORDS, Refusal};
 
 /// A cell of a row that holds words, of which at most 16,384 are used.
 pub trait Cell: Copy {
@@ -22,12 +23,13 @@ pub trait Cell: Copy {
     fn word(cells: &[Self], index: usize) -> Option<u32>
         ensures { result ≡ slice_get (words cells.now) index };
 
-    /// Makes the word at an index equal `word`, if there is one, and changes no other cell.
-    fn set(cells: &mut [Self], index: usize, word: u32) -> Option<()>
-        ensures some { IsSome result ↔ (index < length (words cells.old)) }
-        ensures words { words cells.new ≡ slice_set (words cells.old) index word }
+    /// Makes the word at an index equal `word`, and changes no other cell. A refusal changes nothing at all.
+    fn set(cells: &mut [Self], index: usize, word: u32) -> Result<(), Refusal>
+        ensures put { Put (words cells.old) index word (words cells.new) result }
         ensures same { length (words cells.old) ≤ index → cells.new ≡ cells.old }
         ensures beside { beside cells.new ≡ beside cells.old };
+
+    ghost few: { (cells : List Self) → length (words cells) ≤ 16384 };
 }
 
 /// A cell is a word.
@@ -35,6 +37,8 @@ impl Cell for u32 {
     ghost words = { λ cells. take 16384 cells };
 
     ghost beside = { λ cells. drop 16384 cells };
+
+    ghost few = { front_few };
 
     fn count(cells: &[u32]) -> usize {
         cells.len().min(MOST_WORDS)
@@ -44,12 +48,12 @@ impl Cell for u32 {
         cells[..Self::count(cells)].get(index).copied()
     }
 
-    fn set(cells: &mut [u32], index: usize, word: u32) -> Option<()> {
+    fn set(cells: &mut [u32], index: usize, word: u32) -> Result<(), Refusal> {
         if index >= Self::count(cells) {
-            return None;
+            return Err(Refusal::OutOfRange);
         }
         cells[index] = word;
-        Some(())
+        Ok(())
     }
 }
 
@@ -59,6 +63,8 @@ impl Cell for u8 {
 
     ghost beside = { bytes_beside };
 
+    ghost few = { packed_few };
+
     fn count(cells: &[u8]) -> usize {
         (cells.len() / 4).min(MOST_WORDS)
     }
@@ -67,12 +73,12 @@ impl Cell for u8 {
         word_at(&cells[..4 * Self::count(cells)], index)
     }
 
-    fn set(cells: &mut [u8], index: usize, word: u32) -> Option<()> {
+    fn set(cells: &mut [u8], index: usize, word: u32) -> Result<(), Refusal> {
         if index >= Self::count(cells) {
-            return None;
+            return Err(Refusal::OutOfRange);
         }
         let at = 4 * index;
         cells[at..at + 4].copy_from_slice(&word.to_le_bytes());
-        Some(())
+        Ok(())
     }
 }

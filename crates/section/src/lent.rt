@@ -3,6 +3,7 @@ use crate::Refusal;
 use crate::section::Section;
 
 /// It is the section memory behind the reference.
+// Calls are handed on one by one: Rust delegates none, and a macro may write no impl.
 impl<'a, S: Section> Section for &'a mut S {
     const H: usize = S::H;
 

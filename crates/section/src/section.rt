@@ -47,6 +47,7 @@ pub trait Section: Memory {
         ensures home { Self.Memory.fixed self.new ≡ Self.Memory.fixed self.old };
 
     /// The index and the word of pair `k`.
+    // A pair of words as a tuple, since `Pair` belongs to a layer above.
     fn held(&self, k: usize) -> Result<(u32, u32), Refusal>
         ensures { Meant most (view self.now) (facts self.now) → Held (view self.now).pairs k result };
 

@@ -51,7 +51,6 @@ impl<S: Section> WriteBack<S> {
 
     // Takes a write that the lower section memory refused into a pair of the layer's own, while there is room.
     fn keep(&mut self, index: usize, word: u32, lanes: u32) -> Result<(), Refusal>
-        requires { index < 16384 }
         ensures lower { self.new.lower ≡ self.old.lower }
         ensures taken { index < length (S.Memory.words self.old.lower) → Taken (room_over S.Section.most) self.old.own (index, merged (slice_index (S.Memory.words self.old.lower) index) word lanes) result self.new.own }
     {
@@ -82,10 +81,13 @@ const fn capped(sum: usize) -> usize
     if sum < MOST_PAIRS { sum } else { MOST_PAIRS }
 }
 
+// Calls are handed on one by one: Rust delegates none, and a macro may write no impl.
 impl<S: Section> Memory for WriteBack<S> {
     ghost words = { λ s. S.Memory.words s.lower };
 
     ghost fixed = { λ s. S.Memory.fixed s.lower };
+
+    ghost few = { λ s. S.Memory.few s.lower };
 
     fn size(&self) -> usize {
         self.lower.size()
