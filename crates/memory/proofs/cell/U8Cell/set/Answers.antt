@@ -10,7 +10,7 @@ returns-clause-put c = (
   λ _. (
     refl,
     packed_put c.args.cells.now c.args.index c.args.word (omega (arith, packed_length c.args.cells.now, c.count.ensures.count)) (omega arith) _ _ (omega arith)
-    (c.copy_from_slice.ensures.after ∙ c.to_le_bytes.ensures),
+        (c.copy_from_slice.ensures.after ∙ c.to_le_bytes.ensures),
   ),
   λ h. absurd (omega (arith, c.count.ensures.count)),
 )
