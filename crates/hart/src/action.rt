@@ -47,7 +47,7 @@ impl Stop {
     }
 }
 
-/// What the stop means, in plain words.
+// What the stop means, in plain words. Written out, since a derive says nothing of the text in `output`.
 impl fmt::Display for Stop {
     ghost output = { λ s. Some (meaning s) };
 
@@ -70,7 +70,7 @@ impl fmt::Display for Stop {
 /// What the next instruction does.
 ///
 /// An enum, and no closure: every machine that carries it out does so over memories of its own kind. A stop is one of the answers, and
-/// no error, as `plan` cannot fail. Register 0 stands where no register is written, as by the instruction set it drops what is.
+/// no error, as `plan` cannot fail. Register 0 stands where no register changes: by the instruction set it drops what is written to it.
 #[derive(Clone, Copy, PartialEq, Eq, Debug)]
 pub enum Action {
     /// nothing: the machine stops

@@ -105,7 +105,7 @@ impl Header {
         }
     }
 
-    // Whether the words keep their rules; each is judged by those before it.
+    // Whether the words keep their rules, of which each uses the words before it.
     fn rules(&self) -> [(bool, HeaderWord); 7]
         ensures { map asked result ≡ header_questions self.now }
     {

@@ -30,6 +30,7 @@ pub enum Line {
     LoadRefused(Refusal),
 }
 
+// Written out, since a derive says nothing of the text in `output`.
 impl fmt::Display for Line {
     ghost output = { λ l. Some (line l) };
 

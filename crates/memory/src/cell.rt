@@ -57,7 +57,7 @@ impl Cell for u32 {
     }
 }
 
-/// Four cells are a word, the least significant byte first; up to three bytes over are never touched.
+/// Four cells are a word, the least significant byte first; the bytes after the last word in use are never touched.
 impl Cell for u8 {
     ghost words = { packed };
 
