@@ -1,7 +1,7 @@
 // The first seven words of an image.
 ghost use Rattle.std.specs.Prelude.{◌≡◌, ◌≤◌, length, map, Some};
 ghost use Rattle.image.specs.Image.{Judged, addresses, asked, header as header_of, header_questions};
-ghost use Rattle.image.specs.Refusals.{position as position_of, rule};
+ghost use Rattle.image.specs.Refusals.{position as position_of, header_word, rule};
 
 use crate::Refusal;
 use memory::bytes::word_at;
@@ -55,6 +55,22 @@ impl HeaderWord {
     {
         self as u32
     }
+
+    /// The word at a place, from 0; none from the eighth on.
+    pub fn at(position: u32) -> Option<HeaderWord>
+        ensures { result ≡ header_word position }
+    {
+        match position {
+            0 => Some(HeaderWord::Words),
+            1 => Some(HeaderWord::Text),
+            2 => Some(HeaderWord::Given),
+            3 => Some(HeaderWord::Entry),
+            4 => Some(HeaderWord::Period),
+            5 => Some(HeaderWord::Outputs),
+            6 => Some(HeaderWord::Limit),
+            _ => None,
+        }
+    }
 }
 
 // Tells the rule that the word breaks. Written out, since a derive says nothing of the text in `output`.
@@ -100,7 +116,7 @@ impl Header {
         ensures { Judged self.now result }
     {
         match self.rules().iter().find(|(holds, _)| !*holds) {
-            Some(&(_, word)) => Err(Refusal::Header(word)),
+            Some(&(_, word)) => Err(Refusal::Header(word.position())),
             None => Ok(()),
         }
     }

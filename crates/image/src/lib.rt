@@ -18,8 +18,8 @@ use std::fmt;
 pub enum Refusal {
     /// the length is no multiple of 4, or too short for a header
     Length,
-    /// this header word breaks its rule
-    Header(HeaderWord),
+    /// the header word with this number breaks its rule
+    Header(u32),
     /// the length is not the one that the header gives
     Size,
 }
@@ -47,7 +47,10 @@ impl fmt::Display for Refusal {
             Refusal::Length => {
                 f.write_str("the length is not a multiple of 4, or less than 28 bytes")
             }
-            Refusal::Header(word) => write!(f, "{word}"),
+            Refusal::Header(position) => match HeaderWord::at(*position) {
+                Some(word) => write!(f, "{word}"),
+                None => f.write_str("a header word breaks its rule"),
+            },
             Refusal::Size => {
                 f.write_str("the length is not 28 bytes and 4 for each memory word given")
             }

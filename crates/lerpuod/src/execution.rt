@@ -72,7 +72,6 @@ pub fn execute(heap: Global, bytes: &[u8]) -> Result<Run, NoRun>
 #[cfg(test)]
 mod tests {
     use super::*;
-    use image::header::HeaderWord;
     use std::test::Fail;
     use worked_examples::example_image;
 
@@ -83,10 +82,7 @@ mod tests {
         bytes[12] = 2;
         match execute(rt.alloc(), &bytes) {
             Err(NoRun::Refused(refusal)) => {
-                assert_eq!(rt;
-                    refusal,
-                    Refusal::Image(image::Refusal::Header(HeaderWord::Entry))
-                );
+                assert_eq!(rt; refusal, Refusal::Image(image::Refusal::Header(3)));
                 Ok(())
             },
             Err(NoRun::Memory) => Err(Fail::new("there was not enough memory")),

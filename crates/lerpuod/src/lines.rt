@@ -58,8 +58,7 @@ impl fmt::Display for Line {
             Line::LoadRefused(refusal) => {
                 let number = refusal.number();
                 match refusal {
-                    Refusal::Image(image::Refusal::Header(word)) => {
-                        let position = word.position();
+                    Refusal::Image(image::Refusal::Header(position)) => {
                         write!(f, "load: refused {number} {position}: {refusal}")
                     }
                     _ => write!(f, "load: refused {number}: {refusal}"),
@@ -73,41 +72,44 @@ impl fmt::Display for Line {
 mod tests {
     use super::*;
     use image::Refusal as ImageRefusal;
-    use image::header::HeaderWord;
     use std::test::Fail;
 
-    const REFUSALS: [(Refusal, &str); 10] = [
+    const REFUSALS: [(Refusal, &str); 11] = [
         (
             Refusal::Image(ImageRefusal::Length),
             "load: refused 2: the length is not a multiple of 4, or less than 28 bytes",
         ),
         (
-            Refusal::Image(ImageRefusal::Header(HeaderWord::Words)),
+            Refusal::Image(ImageRefusal::Header(0)),
             "load: refused 5 0: the memory size is not 1 to 16384 words",
         ),
         (
-            Refusal::Image(ImageRefusal::Header(HeaderWord::Text)),
+            Refusal::Image(ImageRefusal::Header(1)),
             "load: refused 5 1: the text size is 0 or above the memory size",
         ),
         (
-            Refusal::Image(ImageRefusal::Header(HeaderWord::Given)),
+            Refusal::Image(ImageRefusal::Header(2)),
             "load: refused 5 2: the memory words given are fewer than the text or more than the memory",
         ),
         (
-            Refusal::Image(ImageRefusal::Header(HeaderWord::Entry)),
+            Refusal::Image(ImageRefusal::Header(3)),
             "load: refused 5 3: the entry is not a multiple of 4 inside the text",
         ),
         (
-            Refusal::Image(ImageRefusal::Header(HeaderWord::Period)),
+            Refusal::Image(ImageRefusal::Header(4)),
             "load: refused 5 4: the watchdog period is not 1 to 65535 instructions",
         ),
         (
-            Refusal::Image(ImageRefusal::Header(HeaderWord::Outputs)),
+            Refusal::Image(ImageRefusal::Header(5)),
             "load: refused 5 5: the most outputs are above 16384",
         ),
         (
-            Refusal::Image(ImageRefusal::Header(HeaderWord::Limit)),
+            Refusal::Image(ImageRefusal::Header(6)),
             "load: refused 5 6: the most instructions are 0",
+        ),
+        (
+            Refusal::Image(ImageRefusal::Header(7)),
+            "load: refused 5 7: a header word breaks its rule",
         ),
         (
             Refusal::Image(ImageRefusal::Size),

@@ -1,4 +1,8 @@
 // The command `uninterrupted`: an image executed without cuts, and what its run left.
+ghost use Rattle.std.specs.Prelude.{◌≡◌};
+ghost use Rattle.hart.specs.Registers.{reg};
+ghost use Rattle.lerpuod.specs.declared.lines.Line.TheVariants.{Register};
+
 use crate::execution::{NoRun, Run, execute};
 use crate::fault::Fault;
 use crate::lines::Line;
@@ -48,13 +52,27 @@ fn print_outputs(rt: &impl Print, outputs: &[u32]) -> io::Result<()> {
 
 fn print_registers(rt: &impl Print, hart: &Hart) -> io::Result<()> {
     for number in 0..PC {
-        rt.println(Line::Register {
-            number,
-            word: hart.read(number),
-        })?;
+        rt.println(register(hart, number))?;
     }
-    rt.println(Line::Register {
+    rt.println(pc(hart))
+}
+
+// The line of a register.
+fn register(hart: &Hart, number: u8) -> Line
+    ensures { result ≡ Register number (reg hart.now.x number) }
+{
+    Line::Register {
+        number,
+        word: hart.read(number),
+    }
+}
+
+// The line of pc.
+fn pc(hart: &Hart) -> Line
+    ensures { result ≡ Register 32 hart.now.pc }
+{
+    Line::Register {
         number: PC,
         word: hart.pc,
-    })
+    }
 }

@@ -1,5 +1,5 @@
 // One step, and the run to its end.
-ghost use Rattle.std.specs.Prelude.{◌≡◌, [], MatchResult};
+ghost use Rattle.std.specs.Prelude.{◌≡◌, ◌≤◌, [], length, MatchResult};
 ghost use Rattle.machine.specs.Refusals.{as_no};
 ghost use Rattle.machine.specs.Calls.{Fits, Advanced, Step, Run};
 
@@ -52,6 +52,7 @@ impl Machine {
         log: &L,
     ) -> Result<(), Refusal>
         ensures sizes { MatchResult result (λ _. Fits self.now.limits (M.Memory.words memory.now) (L.Memory.words log.now)) (λ e. (as_no e ≡ (7, [])) × (Fits self.now.limits (M.Memory.words memory.now) (L.Memory.words log.now) → ⊥)) }
+        ensures few { length (L.Memory.words log.now) ≤ 16384 }
     {
         let words = memory.size();
         let outputs = log.size();
@@ -64,6 +65,7 @@ impl Machine {
     // One step over memories of sufficient size.
     fn advance<M: Memory, L: Memory>(&mut self, memory: &mut M, log: &mut L) -> Option<Stop>
         requires fits { Fits self.old.limits (M.Memory.words memory.old) (L.Memory.words log.old) }
+        requires few { length (L.Memory.words log.old) ≤ 16384 }
         ensures step { Advanced self.old.limits self.old.core (M.Memory.words memory.old) (L.Memory.words log.old) self.new.core (M.Memory.words memory.new) (L.Memory.words log.new) result }
         ensures limits { self.new.limits ≡ self.old.limits }
         ensures memory_home { M.Memory.fixed memory.new ≡ M.Memory.fixed memory.old }

@@ -30,8 +30,6 @@ impl<'a, C: Cell> Memory for Bank<'a, C> {
 
     ghost fixed = { λ s. s.cells.ghost_name ∷ C.beside s.cells.now };
 
-    ghost few = { λ s. C.few s.cells.now };
-
     fn size(&self) -> usize {
         C::count(self.cells)
     }

@@ -10,8 +10,6 @@ impl<'a, M: Memory> Memory for &'a mut M {
 
     ghost fixed = { λ s. s.ghost_name ∷ M.Memory.fixed s.now };
 
-    ghost few = { λ s. M.Memory.few s.now };
-
     fn size(&self) -> usize {
         (**self).size()
     }

@@ -55,6 +55,4 @@ pub trait Memory {
         ensures put { Put (words self.old) index word (words self.new) result }
         ensures same { length (words self.old) ≤ index → self.new ≡ self.old }
         ensures home { fixed self.new ≡ fixed self.old };
-
-    ghost few: { (s : Self) → length (words s) ≤ 16384 };
 }

@@ -1,7 +1,8 @@
 -- What follows from the meaning of the calls.
-use Rattle.std.proofs.Common.{◌≡◌, ℕ, ◌<◌, Bool, true, false, cond, ◌||◌, eqb, ◌≢◌, ◌⊎◌, List, length, get_or, set, Some, None, Ok, Err, Option, Result, sym, refl, ap, ◌∙◌, subst, inl, inr, ⊎_elim, arith}
+use Rattle.std.proofs.Common.{◌≡◌, ℕ, ◌<◌, ◌≤◌, Bool, true, false, cond, ◌||◌, eqb, ◌≢◌, ◌⊎◌, List, length, get_or, set, Some, None, Ok, Err, Option, Result, sym, refl, ap, ◌∙◌, subst, inl, inr, ⊎_elim, arith}
 use Rattle.std.proofs.lemmas.Bool.{eqb-true, cases_eq, cases_lt, cases_Bool, false≢true, or_cases, or_parts}
 use Rattle.std.proofs.lemmas.List.{get_or-set_same, get_or-set_other}
+use Rattle.std.proofs.lemmas.Option.{none-some}
 use Rattle.memory.specs.Lanes.{merged}
 use Rattle.index_sets.specs.Sets.{joined}
 use Rattle.section.specs.declared.Refusal.{Refusal}
@@ -110,6 +111,18 @@ seen_written h ws v i new lanes ws' v' s (held_back t st) =
     ∙ ap (unwrap_or (held v.pairs k)) (words k))
 
 -- ---- the facts
+-- where nothing is marked and nothing held, all facts hold
+pub fresh_facts : (h : ℕ) → h ≤ 64 → Facts h fresh
+fresh_facts h l =
+    record {
+      below = λ k a. absurd (false≢true a);
+      disjoint = λ k a b. false≢true a;
+      apart = tt;
+      inside = λ k w e. absurd (none-some w e);
+      few = omega arith;
+      cap = l;
+    }
+
 -- a member of a set with i in it is i or was in the set
 joined_cases : (m : ℕ → Bool) (i k : ℕ) → joined m i k ≡ true → (k ≡ i) ⊎ (m k ≡ true)
 joined_cases m i k e = ⊎_elim (λ q. inl (eqb-true k i q)) inr (or_cases (eqb k i) (m k) e)

@@ -61,8 +61,6 @@ impl<M: Memory, R: IndexSet, F: IndexSet> Memory for Detector<M, R, F> {
 
     ghost fixed = { λ s. M.Memory.fixed s.memory };
 
-    ghost few = { λ s. M.Memory.few s.memory };
-
     fn size(&self) -> usize {
         self.memory.size()
     }
@@ -102,6 +100,9 @@ impl<M: Memory, R: IndexSet, F: IndexSet> Section for Detector<M, R, F> {
         ensures home { M.Memory.fixed self.new.memory ≡ M.Memory.fixed self.old.memory }
         ensures detected { DetectedRead (M.Memory.words self.old.memory) (sets R.IndexSet.member F.IndexSet.member self.old) index result (sets R.IndexSet.member F.IndexSet.member self.new) }
     {
+        if index >= self.memory.size() {
+            return Err(Refusal::OutOfRange);
+        }
         let word = self.memory.look(index)?;
         if self.reads.has(index) || self.writes.has(index) {
             return Ok(word);

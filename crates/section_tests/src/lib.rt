@@ -6,6 +6,8 @@ mod calls;
 #[cfg(test)]
 mod model;
 #[cfg(test)]
+mod own_memory;
+#[cfg(test)]
 mod piles;
 #[cfg(test)]
 mod rows;

@@ -108,7 +108,7 @@ module _ (h : ℕ) (ws : List ℕ) (v : View) (ps : List (ℕ × ℕ)) (i old : 
       }
 
 -- ---- all that a layer's write promises, over a section memory that holds at most h pairs
-record LayerWrite (h : ℕ) (ws : List ℕ) (v : View) (ps : List (ℕ × ℕ)) (i w lanes : ℕ)
+pub record LayerWrite (h : ℕ) (ws : List ℕ) (v : View) (ps : List (ℕ × ℕ)) (i w lanes : ℕ)
     (r : Result (Unit {0}) Refusal) (ws' : List ℕ) (v' : View) (ps' : List (ℕ × ℕ)) : Type 0 where
   pub write : Write (most_over h) ws (layered v ps) i w lanes r ws' (layered v' ps')
   pub facts : Facts (most_over h) (layered v' ps')
@@ -132,7 +132,7 @@ module _ (h : ℕ) (ws : List ℕ) (v : View) (ps : List (ℕ × ℕ)) (i w lane
       }
 
   -- an index with an own pair
-  changed : (ps' : List (ℕ × ℕ)) → Changed ps i w lanes true ps' → LayerWrite h ws v ps i w lanes (Ok tt) ws v ps'
+  pub changed : (ps' : List (ℕ × ℕ)) → Changed ps i w lanes true ps' → LayerWrite h ws v ps i w lanes (Ok tt) ws v ps'
   changed ps' c =
       let new = merged c.0 w lanes in
       promised (Ok tt) ws v ps'
@@ -184,7 +184,7 @@ module _ (h : ℕ) (ws : List ℕ) (v : View) (ps : List (ℕ × ℕ)) (i w lane
         }
 
     -- a write that is accepted below
-    accepted_below : (ws' : List ℕ) (v' : View) (ps' : List (ℕ × ℕ)) → ps' ≡ ps → Write h ws v i w lanes (Ok tt) ws' v' →
+    pub accepted_below : (ws' : List ℕ) (v' : View) (ps' : List (ℕ × ℕ)) → ps' ≡ ps → Write h ws v i w lanes (Ok tt) ws' v' →
         LayerWrite h ws v ps i w lanes (Ok tt) ws' v' ps'
     accepted_below ws' v' ps' e st =
         subst (LayerWrite h ws v ps i w lanes (Ok tt) ws' v') (sym e)
@@ -254,7 +254,7 @@ module _ (h : ℕ) (ws : List ℕ) (v : View) (ps : List (ℕ × ℕ)) (i w lane
           (omega (arith, ap length k.2)) (inl k.2) (λ _. k.1)
 
     -- a write that is refused below leaves ws₁ and v₁, which the layer leaves alone
-    refused_below : (x : Refusal) (ws₁ : List ℕ) (v₁ : View) → Write h ws v i w lanes (Err x) ws₁ v₁ →
+    pub refused_below : (x : Refusal) (ws₁ : List ℕ) (v₁ : View) → Write h ws v i w lanes (Err x) ws₁ v₁ →
         (ps₁ : List (ℕ × ℕ)) → ps₁ ≡ ps → (r : Result (Unit {0}) Refusal) (ps' : List (ℕ × ℕ)) →
         (i < length ws₁ → Taken (room_over h) ps₁ (i, merged (get_or ws₁ i 0) w lanes) r ps') →
         LayerWrite h ws v ps i w lanes r ws₁ v₁ ps'

@@ -51,6 +51,7 @@ impl<S: Section> WriteBack<S> {
 
     // Takes a write that the lower section memory refused into a pair of the layer's own, while there is room.
     fn keep(&mut self, index: usize, word: u32, lanes: u32) -> Result<(), Refusal>
+        requires { index < 16384 }
         ensures lower { self.new.lower ≡ self.old.lower }
         ensures taken { index < length (S.Memory.words self.old.lower) → Taken (room_over S.Section.most) self.old.own (index, merged (slice_index (S.Memory.words self.old.lower) index) word lanes) result self.new.own }
     {
@@ -86,8 +87,6 @@ impl<S: Section> Memory for WriteBack<S> {
     ghost words = { λ s. S.Memory.words s.lower };
 
     ghost fixed = { λ s. S.Memory.fixed s.lower };
-
-    ghost few = { λ s. S.Memory.few s.lower };
 
     fn size(&self) -> usize {
         self.lower.size()
@@ -160,10 +159,10 @@ impl<S: Section> Section for WriteBack<S> {
         if k < lower {
             return self.lower.held(k);
         }
-        self.own
-            .pair(k - lower)
-            .map(|pair| (pair.index, pair.word))
-            .ok_or(Refusal::NoPair)
+        let Some(pair) = self.own.pair(k - lower) else {
+            return Err(Refusal::NoPair);
+        };
+        Ok((pair.index, pair.word))
     }
 
     fn pair_count(&self) -> usize {

@@ -22,6 +22,8 @@ pub returns : goal.returns
 returns g c =
     let key = g.E.Entry.key in
     let i = c.args.index in
+    let found : Found (map key c.args.entries.now) i c.position.result =
     told key c.args.entries.now i c.position.result
     (IsFirst-from_position _ _ _ (λ e. key e ≡ i) (λ e. key e ≢ i) c.position.ensures.ran
-    (YieldsList-from_slice c.args.entries.now cc) (λ x q k. search (rules, tests)) (λ x q k. search (rules, tests)))
+    (YieldsList-from_slice c.args.entries.now cc) (λ x q k. search (rules, tests)) (λ x q k. search (rules, tests))) in
+    search rules

@@ -19,5 +19,5 @@ returns-in-Store-clause-step g c =
 
 pub returns-in-Output-clause-step : goal.returns-in-Output-clause-step
 returns-in-Output-clause-step g c =
-    outputs _ _ _ _ _ c.word_at-word.ensures c.plan.ensures.room _ c.requires.fits (g.met.L.Memory.few c.args.log.now) _ _ c.in-Output.ensures.action
+    outputs _ _ _ _ _ c.word_at-word.ensures c.plan.ensures.room _ c.requires.fits c.requires.few _ _ c.in-Output.ensures.action
     c.put_at-in-Output.ensures.put c.retire_output.ensures
