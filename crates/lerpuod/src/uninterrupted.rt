@@ -1,5 +1,5 @@
 // The command `uninterrupted`: an image executed without cuts, and what its run left.
-ghost use Rattle.std.specs.Prelude.{◌≡◌};
+ghost use Rattle.std.specs.Prelude.{◌≡◌, ◌<◌};
 ghost use Rattle.hart.specs.Registers.{reg};
 ghost use Rattle.lerpuod.specs.declared.lines.Line.TheVariants.{Register};
 
@@ -57,8 +57,9 @@ fn print_registers(rt: &impl Print, hart: &Hart) -> io::Result<()> {
     rt.println(pc(hart))
 }
 
-// The line of a register.
+// The line of a register. The number after theirs is that of pc, whose line is made below.
 fn register(hart: &Hart, number: u8) -> Line
+    requires { number < 32 }
     ensures { result ≡ Register number (reg hart.now.x number) }
 {
     Line::Register {

@@ -1,4 +1,4 @@
-use Rattle.std.proofs.Common.{◌*◌, ◌∙◌, arith, length-take}
+use Rattle.std.proofs.Common.{◌*◌, ◌∙◌, arith, length-take, rules}
 use Rattle.memory.proofs.Packed.{packed_length, packed_get}
 use Rattle.memory.proofs.cell.U8Cell.word.Goals as goal
 
@@ -7,5 +7,7 @@ slice_bounds-word_at-end c = omega (arith, length-take (4 * c.count.result) c.ar
 
 pub returns : goal.returns
 returns c =
+    let looked =
     packed_get c.args.cells.now c.args.index c.count.result c.word_at.result
-    (c.count.ensures.count ∙ packed_length c.args.cells.now) c.word_at.ensures
+    (c.count.ensures.count ∙ packed_length c.args.cells.now) c.word_at.ensures in
+    search rules
