@@ -51,7 +51,8 @@ pub enum HeaderWord {
 impl HeaderWord {
     /// The word's place in the header, from 0.
     pub fn position(self) -> u32
-        ensures { result ≡ position_of self }
+        ensures place { result ≡ position_of self }
+        ensures back { header_word result ≡ Some self }
     {
         self as u32
     }

@@ -18,7 +18,7 @@ judged c =
     (λ x q k. search rules)))
 
 pub returns-in-Some : goal.returns-in-Some
-returns-in-Some c = let found = judged (goal.at-returns-in-Some c).After-find in rw c.position.ensures (rw c.in-Some.is at found)
+returns-in-Some c = let found = judged (goal.at-returns-in-Some c).After-find in rw c.position.ensures.place (rw c.in-Some.is at found)
 
 pub returns-in-None : goal.returns-in-None
 returns-in-None c = let found = judged (goal.at-returns-in-None c).After-find in rw c.in-None.is at found
